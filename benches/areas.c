@@ -1,12 +1,12 @@
-// areas.c - the areas of a layer in plain C: reads a main file and its index file beside it, in centimetres, and prints for
-// each polygon its record's number and twice its area without sign, as parcel_tool does.
+// areas.c - the areas of a layer in plain C: reads a main file and its index file beside it, in centimetres, and prints
+// for each polygon its record's number and twice its area without sign, as parcel_tool does.
 //
 //   areas sums MAIN        sums the areas as it reads, and keeps no ring, as parcel_tool does
 //   areas rings MAIN       keeps all rings first
 //
 // The files are read whole by `read`, a coordinate is a double that must be a whole number of centimetres and counts in
-// millimetres, and areas are 128-bit sums. It tests no more than that a record lies in the file, so it is what the reading
-// has to do at least, and no program to trust.
+// millimetres, and areas are 128-bit sums. It tests no more than that a record lies in the file, so it is what the
+// reading has to do at least, and no program to trust.
 #include <fcntl.h>
 #include <stdint.h>
 #include <stdio.h>
@@ -131,7 +131,8 @@ int main(int count, char **words) {
             if (!rings) stop("no memory");
             const unsigned char *from = file.at + at + 56;
             if (memcmp(from, from + 16 * (size_t)(points - 1), 16)) stop("a ring is not closed");
-            rings[kept++] = keeps ? read_ring(from, (uint32_t)number, points) : sum_ring(from, (uint32_t)number, points);
+            rings[kept++] = keeps ? read_ring(from, (uint32_t)number, points)
+                                  : sum_ring(from, (uint32_t)number, points);
         }
         at = next;
     }

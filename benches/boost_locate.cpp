@@ -1,5 +1,5 @@
-// boost_locate.cpp - in which parcel Boost.Geometry says that random points are: an R* tree of boxes, and `within` for those that
-// hold the point. A point on an edge is in none. And how many boxes meet one. See locate.h.
+// boost_locate.cpp - in which parcel Boost.Geometry says that random points are: an R* tree of boxes, and `within` for
+// those that hold the point. A point on an edge is in none. And how many boxes meet one. See locate.h.
 #include <boost/geometry.hpp>
 #include <boost/geometry/index/rtree.hpp>
 #include "locate.h"
@@ -32,7 +32,8 @@ static void ids_at(const Index& index, Place place, std::vector<size_t>& ids) {
 static size_t meeting(const Index& index, Place low, Place high) {
   geometry::model::box<Point> box(Point(low.x, low.y), Point(high.x, high.y));
   std::vector<size_t> ids;
-  for (auto it = index.tree.qbegin(geometry::index::intersects(box)); it != index.tree.qend(); ++it) ids.push_back(it->second + 1);
+  for (auto it = index.tree.qbegin(geometry::index::intersects(box)); it != index.tree.qend(); ++it)
+    ids.push_back(it->second + 1);
   return ids.size();
 }
 

@@ -1,8 +1,8 @@
 #!/usr/bin/env bash
-# build.sh NAME FOLDER: builds the program benches/programs/NAME over the crates of this repository, in a temporary folder,
-# where its sources and proofs lose the ending .txt (the gate stops at an .rt file of no crate of its own), proves it as the gate
-# would, and copies it to FOLDER. What earlier checks kept in crates/*/out is used where it is there. BENCH_JOBS says how many
-# provers there are at most (2 where it is not set).
+# build.sh NAME FOLDER: builds the program benches/programs/NAME over the crates of this repository, in a temporary
+# folder, where its sources and proofs lose the ending .txt (the gate stops at an .rt file of no crate of its own),
+# proves it as the gate would, and copies it to FOLDER. What earlier checks kept in crates/*/out is used where it is
+# there. BENCH_JOBS says how many provers there are at most (2 where it is not set).
 set -eu
 here=$(cd "$(dirname "$0")" && pwd)
 name=$1

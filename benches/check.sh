@@ -1,6 +1,6 @@
 #!/usr/bin/env bash
-# check.sh: proves and builds every program of programs/, so that none is left behind by a change of the crates. It is no part of the
-# gate, which it would lengthen by an hour.
+# check.sh: proves and builds every program of programs/, so that none is left behind by a change of the crates. It is
+# no part of the gate, which it would lengthen by an hour.
 set -eu
 here=$(cd "$(dirname "$0")" && pwd)
 folder=$(mktemp -d)

@@ -3,9 +3,9 @@
 
     benches/gate_times.py [SECONDS] > table     watches until no gate runs any more, looking every SECONDS (2)
 
-It watches the provers that any of these starts on this machine, and reads the time that each has used from /proc. What a
-prover takes beside others is more than it takes alone. One that lives for less than SECONDS is not seen whole. It stands
-outside of the gate.
+It watches the provers that any of these starts on this machine, and reads the time that each has used from /proc. What
+a prover takes beside others is more than it takes alone. One that lives for less than SECONDS is not seen whole. It
+stands outside of the gate.
 """
 import os
 import re

@@ -1,5 +1,5 @@
-// geos_locate.cpp - in which parcel GEOS says that random points are: an STR tree, and the prepared parcels' `contains` for those whose
-// boxes hold the point. A point on an edge is in none. And how many boxes meet one. See locate.h.
+// geos_locate.cpp - in which parcel GEOS says that random points are: an STR tree, and the prepared parcels' `contains`
+// for those whose boxes hold the point. A point on an edge is in none. And how many boxes meet one. See locate.h.
 #include <geos_c.h>
 #include <cstdarg>
 #include "locate.h"
@@ -17,7 +17,10 @@ struct Index {
   explicit Index(const std::vector<std::vector<Place>>& rings) {
     for (auto& ring : rings) {
       GEOSCoordSequence* list = GEOSCoordSeq_create(ring.size(), 2);
-      for (size_t i = 0; i < ring.size(); i++) { GEOSCoordSeq_setX(list, i, ring[i].x); GEOSCoordSeq_setY(list, i, ring[i].y); }
+      for (size_t i = 0; i < ring.size(); i++) {
+        GEOSCoordSeq_setX(list, i, ring[i].x);
+        GEOSCoordSeq_setY(list, i, ring[i].y);
+      }
       GEOSGeometry* polygon = GEOSGeom_createPolygon(GEOSGeom_createLinearRing(list), nullptr, 0);
       GEOSSTRtree_insert(tree, polygon, (void*)prepared.size());
       prepared.push_back(GEOSPrepare(polygon));

@@ -1,7 +1,7 @@
-// geos_overlap.cpp - GEOS's relate, and with a word on the command line its intersects && !touches, over the pairs that standard
-// input holds, in the form that bench_overlap reads. Each answer line is the group's name, the number of its pairs, the
-// nanoseconds of the best round of relate and of intersects && !touches, and a 0 or 1 for each pair by the first and by the
-// second. Without the word the second has 0 nanoseconds and the answers of the first.
+// geos_overlap.cpp - GEOS's relate, and with a word on the command line its intersects && !touches, over the pairs that
+// standard input holds, in the form that bench_overlap reads. Each answer line is the group's name, the number of its
+// pairs, the nanoseconds of the best round of relate and of intersects && !touches, and a 0 or 1 for each pair by the
+// first and by the second. Without the word the second has 0 nanoseconds and the answers of the first.
 #include <geos_c.h>
 #include <chrono>
 #include <cstdarg>
@@ -45,7 +45,8 @@ template <typename Test> static long long best(const Pairs& pairs, int rounds, T
     answers.clear();
     auto begin = std::chrono::steady_clock::now();
     for (auto& pair : pairs) answers.push_back(test(pair.first, pair.second) ? '1' : '0');
-    long long taken = std::chrono::duration_cast<std::chrono::nanoseconds>(std::chrono::steady_clock::now() - begin).count();
+    auto passed = std::chrono::steady_clock::now() - begin;
+    long long taken = std::chrono::duration_cast<std::chrono::nanoseconds>(passed).count();
     if (least < 0 || taken < least) least = taken;
   }
   return least;
@@ -57,7 +58,8 @@ static void finish(const std::string& name, int rounds, Pairs& pairs, bool both)
   long long relate = best(pairs, rounds, relates, related);
   long long touch = both ? best(pairs, rounds, intersects, touching) : 0;
   if (!both) touching = related;
-  std::cout << name << ' ' << pairs.size() << ' ' << relate << ' ' << touch << ' ' << related << ' ' << touching << '\n';
+  std::cout << name << ' ' << pairs.size() << ' ' << relate << ' ' << touch << ' ' << related << ' ' << touching
+            << '\n';
   for (auto& pair : pairs) { GEOSGeom_destroy(pair.first); GEOSGeom_destroy(pair.second); }
   pairs.clear();
 }

@@ -1,8 +1,9 @@
-// geos_pairs.cpp - the pairs of a parcel and a zone whose interiors meet, as GEOS has them: geos_pairs relate|touch PARCELS.shp ZONES.shp
+// geos_pairs.cpp - the pairs of a parcel and a zone whose interiors meet, as GEOS has them: geos_pairs relate|touch
+// PARCELS.shp ZONES.shp
 //
-// The pairs whose boxes meet are found by an STR tree of the zones' boxes, and told apart by relate (the first entry of the matrix), or by
-// intersects of the prepared parcel and not touches. On standard output `pair ID ZONE` for each, ascending, on standard error the
-// microseconds of the search, without the reading.
+// The pairs whose boxes meet are found by an STR tree of the zones' boxes, and told apart by relate (the first entry of
+// the matrix), or by intersects of the prepared parcel and not touches. On standard output `pair ID ZONE` for each,
+// ascending, on standard error the microseconds of the search, without the reading.
 #include <geos_c.h>
 #include <algorithm>
 #include <chrono>
@@ -43,7 +44,8 @@ static std::vector<GEOSGeometry*> polygons(const char* path) {
 
 static void keep(void* item, void* found) { ((std::vector<size_t>*)found)->push_back((size_t)item); }
 
-static bool meet(bool by_relate, const GEOSPreparedGeometry* prepared, const GEOSGeometry* parcel, const GEOSGeometry* zone) {
+static bool meet(bool by_relate, const GEOSPreparedGeometry* prepared, const GEOSGeometry* parcel,
+                 const GEOSGeometry* zone) {
   if (by_relate) return GEOSRelatePattern(parcel, zone, "T********") == 1;
   return GEOSPreparedIntersects(prepared, zone) == 1 && GEOSTouches(parcel, zone) == 0;
 }

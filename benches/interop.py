@@ -3,11 +3,12 @@
 
   interop.py PROGRAM [--install] [--keep FOLDER]
 
-PROGRAM is the built parcel_tool (benches/README.md says where it lies). The town of examples/town is exported. GDAL (`ogr2ogr` of Debian's
-package gdal-bin) and pyshp (its package python3-pyshp, for the system's own Python) read both files, and the areas that they report are
-compared with those that `parcel_tool area` prints. Each then writes a layer of what it read, which `parcel_tool area` reads again with the same
-areas. --install installs the two packages first; --keep puts the layers that the two wrote into a folder, as they stand in
-examples/interop. It ends with status 1 at the first difference.
+PROGRAM is the built parcel_tool (benches/README.md says where it lies). The town of examples/town is exported. GDAL
+(`ogr2ogr` of Debian's package gdal-bin) and pyshp (its package python3-pyshp, for the system's own Python) read both
+files, and the areas that they report are compared with those that `parcel_tool area` prints. Each then writes a layer
+of what it read, which `parcel_tool area` reads again with the same areas. --install installs the two packages first;
+--keep puts the layers that the two wrote into a folder, as they stand in examples/interop. It ends with status 1 at the
+first difference.
 """
 import argparse
 import os
@@ -37,6 +38,7 @@ def areas_of_gdal(main):
 
 def shapes_of_pyshp(main):
     import shapefile
+
     with open(main, "rb") as shp, open(main[:-1] + "x", "rb") as shx:
         reader = shapefile.Reader(shp=shp, shx=shx)
         return len(reader), reader.shapes()
@@ -44,6 +46,7 @@ def shapes_of_pyshp(main):
 
 def areas_of_pyshp(main):
     import shapefile
+
     count, shapes = shapes_of_pyshp(main)
     if count != len(shapes):
         sys.exit(f"pyshp counts {count} records and reads {len(shapes)} shapes")
@@ -57,6 +60,7 @@ def write_by_gdal(main, target):
 
 def write_by_pyshp(main, target):
     import shapefile
+
     _, shapes = shapes_of_pyshp(main)
     with shapefile.Writer(target, shapeType=shapefile.POLYGON) as writer:
         writer.field("ID", "N")
@@ -86,7 +90,10 @@ def main():
         output_of([given.program, "export", city, parcels, "--unit", "cm", "--out", town])
         wanted = areas_of_ours(given.program, parcels, "cm")
         compare("exported, read by parcel_tool", areas_of_ours(given.program, town + ".shp"), wanted)
-        for name, areas_of, write in [("gdal", areas_of_gdal, write_by_gdal), ("pyshp", areas_of_pyshp, write_by_pyshp)]:
+        for name, areas_of, write in [
+            ("gdal", areas_of_gdal, write_by_gdal),
+            ("pyshp", areas_of_pyshp, write_by_pyshp),
+        ]:
             compare(f"exported, read by {name}", areas_of(town + ".shp"), wanted)
             written = os.path.join(folder, f"{name}_town_cm.shp")
             write(town + ".shp", written)

@@ -1,5 +1,6 @@
 // locate.h - what boost_locate.cpp and geos_locate.cpp have in common: the rings of a main file, the points that
-// programs/bench_locate draws, and the line that is printed. Both are called NAME PARCELS POINTS WEST SOUTH EAST NORTH SIDE.
+// programs/bench_locate draws, and the line that is printed. Both are called NAME PARCELS POINTS WEST SOUTH EAST NORTH
+// SIDE.
 #pragma once
 #include <chrono>
 #include <cstdint>
@@ -42,13 +43,16 @@ struct Points {
 };
 
 static int64_t now() {
-  return std::chrono::duration_cast<std::chrono::microseconds>(std::chrono::steady_clock::now().time_since_epoch()).count();
+  auto passed = std::chrono::steady_clock::now().time_since_epoch();
+  return std::chrono::duration_cast<std::chrono::microseconds>(passed).count();
 }
 
-// Builds the index of a main file's rings, asks `ids_at(index, place, ids)` for each point, and `meeting(index, low, high)`, how many
-// boxes meet that one, for a square of the side at each point, where there is a side. It prints the microseconds of the building and
-// of the search, how many points are inside, the sum of the ids, the microseconds of the squares, and how many boxes meet them.
-template <class Index, class IdsAt, class Meeting> static int measure(int count, char** words, IdsAt ids_at, Meeting meeting) {
+// Builds the index of a main file's rings, asks `ids_at(index, place, ids)` for each point, and `meeting(index, low,
+// high)`, how many boxes meet that one, for a square of the side at each point, where there is a side. It prints the
+// microseconds of the building and of the search, how many points are inside, the sum of the ids, the microseconds of
+// the squares, and how many boxes meet them.
+template <class Index, class IdsAt, class Meeting>
+static int measure(int count, char** words, IdsAt ids_at, Meeting meeting) {
   if (count != 8) { fprintf(stderr, "usage: %s PARCELS POINTS WEST SOUTH EAST NORTH SIDE\n", words[0]); return 2; }
   auto rings = rings_of(words[1]);
   int64_t begin = now();
@@ -68,7 +72,7 @@ template <class Index, class IdsAt, class Meeting> static int measure(int count,
     Place low = squares.next();
     meet += meeting(index, low, {low.x + side, low.y + side});
   }
-  printf("%lld %lld %llu %llu %lld %llu\n", (long long)(built - begin), (long long)(located - built), (unsigned long long)inside,
-         (unsigned long long)sum, (long long)(now() - located), (unsigned long long)meet);
+  printf("%lld %lld %llu %llu %lld %llu\n", (long long)(built - begin), (long long)(located - built),
+         (unsigned long long)inside, (unsigned long long)sum, (long long)(now() - located), (unsigned long long)meet);
   return 0;
 }

@@ -13,10 +13,10 @@ metropolis  a city of N districts (16, a square number) of 256 by 256 parcels (-
 Beside each stands the plain sum: the program alone, once for each row of the manifest, one behind the other. The share
 is that sum by the seconds of the whole command and by the processors: 1 where nothing is lost. Beside it stands the
 share of xargs, which starts the same runs as many at once as there are processors, and does nothing else: what is lost
-there is the machine's. --kill ends a process of a task, of the program or of a Dask worker every half a second, or every
-so many seconds, with SIGKILL, with ten retries, and no share is told; a city is then without a verdict at worst, with
-the code T4. All verdicts are compared with what was planted. --cities 0 or --districts 0 leaves a manifest out; --keep
-leaves all in a folder.
+there is the machine's. --kill ends a process of a task, of the program or of a Dask worker every half a second, or
+every so many seconds, with SIGKILL, with ten retries, and no share is told; a city is then without a verdict at worst,
+with the code T4. All verdicts are compared with what was planted. --cities 0 or --districts 0 leaves a manifest out;
+--keep leaves all in a folder.
 
 It needs what scripts/python_tests installs, for the system's own Python; slurm also Debian's slurm-wlm.
 """
@@ -257,7 +257,8 @@ def measure(name, folder, engine, program, given, wrong):
     verdicts, without = test_verdicts(name, engine, out, given.kill, wrong)
     if given.kill:
         print(
-            f"{name} by {engine}: {took:.2f} s, {killed} processes killed, {verdicts} verdicts right, {without} without",
+            f"{name} by {engine}: {took:.2f} s, {killed} processes killed, {verdicts} verdicts right, {without} "
+            "without",
             flush=True,
         )
         return

@@ -4,11 +4,11 @@
   metropolis.py FOLDER [--columns 1024] [--rows 1024] [--zone-side 20] [--seed 1] [--gaps N] [--report]
 
 Parcels as those of `gencity.py --size L`, 14 corners each, on whole centimetres, in metres (EPSG:25832): 1,024 by 1,024
-are 16 cities L side by side. Zones are blocks of other corners, some --zone-side parcels wide. --gaps moves the corner of
-so many parcels by 10 cm, away from its neighbours. FOLDER gets parcels.gpkg and zones.gpkg; what is planted is printed.
---report runs `gandovel report` on them (the program is what GANDOVEL_TOOL names), and prints its seconds by the clock, the
-processors' seconds, the most memory that all its processes had at once and one of them alone, and the verdict. Say it
-for three sizes, for the growth.
+are 16 cities L side by side. Zones are blocks of other corners, some --zone-side parcels wide. --gaps moves the corner
+of so many parcels by 10 cm, away from its neighbours. FOLDER gets parcels.gpkg and zones.gpkg; what is planted is
+printed. --report runs `gandovel report` on them (the program is what GANDOVEL_TOOL names), and prints its seconds by
+the clock, the processors' seconds, the most memory that all its processes had at once and one of them alone, and the
+verdict. Say it for three sizes, for the growth.
 """
 import argparse
 import json
@@ -113,7 +113,8 @@ def measure(folder):
 
 
 def most_memory(process):
-    """Waits for a process: the most memory, in GiB, that it and those that it started had at once, looked at each second.
+    """Waits for a process: the most memory, in GiB, that it and those that it started had at once, looked at each
+    second.
 
     What several share is counted once.
     """

@@ -1,17 +1,19 @@
 #!/usr/bin/env python3
 """overlap.py - triangles_overlap and shapes_overlap beside GEOS's relate, or its intersects and not touches, too.
 
-  overlap.py [--seed N] [--ours PROGRAM] [--runs N] [--touches]
+  overlap.py [--seed N] [--ours PROGRAM] [--runs N] [--touches] [--sizes 16,256,4096]
 
 Pairs of triangles and of shapes are made with a fixed seed, all in whole millimetres, and given to both programs: ours
-(programs/bench_overlap, proved and built by build.sh unless PROGRAM is given) and geos_overlap.cpp (Debian's libgeos-dev
-and g++), which takes intersects and not touches, too, with --touches. The two run in turns, N times, and each time is the
-least of all rounds. Making geometries isn't timed; our checking and clipping is printed apart. A pair whose answers differ
-is told.
+(programs/bench_overlap, proved and built by build.sh unless PROGRAM is given) and geos_overlap.cpp (Debian's
+libgeos-dev and g++), which takes intersects and not touches, too, with --touches. The two run in turns, N times, and
+each time is the least of all rounds. Making geometries isn't timed; our checking and clipping is printed apart. A pair
+whose answers differ is told.
 """
-import argparse, math, os, random, shutil, subprocess, sys, tempfile
+import argparse, math, os, random, subprocess, sys
 
-HERE = os.path.dirname(os.path.abspath(__file__))
+sys.dont_write_bytecode = True
+import inputs
+
 FAR = 10 ** 11
 EAST, NORTH = 350000000, 580000000
 
@@ -57,17 +59,25 @@ def sliver(chance):
     b = FAR - chance.randint(0, 10 ** 6), FAR - chance.randint(0, 10 ** 9)
 
     def near():
-        t = chance.randint(1, 10 ** 6 - 1)
-        return (a[0] + (b[0] - a[0]) * t // 10 ** 6 + chance.randint(-2, 2),
-                a[1] + (b[1] - a[1]) * t // 10 ** 6 + chance.randint(-2, 2))
+        t = chance.randint(1, 10**6 - 1)
+        return (
+            a[0] + (b[0] - a[0]) * t // 10**6 + chance.randint(-2, 2),
+            a[1] + (b[1] - a[1]) * t // 10**6 + chance.randint(-2, 2),
+        )
+
     return left(a, b, near()), left(near(), near(), near())
 
 
 def ragged(chance, n, east, north):
     """A ring of corners at rising angles and random distances."""
     far = [1000 * n * chance.uniform(0.5, 1) for _ in range(n)]
-    return [(EAST + east + round(far[k] * math.cos(2 * math.pi * k / n)),
-             NORTH + north + round(far[k] * math.sin(2 * math.pi * k / n))) for k in range(n)]
+    return [
+        (
+            EAST + east + round(far[k] * math.cos(2 * math.pi * k / n)),
+            NORTH + north + round(far[k] * math.sin(2 * math.pi * k / n)),
+        )
+        for k in range(n)
+    ]
 
 
 def stars(chance, n):
@@ -79,14 +89,19 @@ def border(chance, n):
     """Two sides of a jagged border, one above the other."""
     line = [(EAST + 1000 * k, NORTH + chance.randint(0, 1000)) for k in range(n - 2)]
     west, east = line[0][0], line[-1][0]
-    return [(west, NORTH - 3000), (east, NORTH - 3000)] + line[::-1], line + [(east, NORTH + 4000), (west, NORTH + 4000)]
+    return [(west, NORTH - 3000), (east, NORTH - 3000)] + line[::-1], line + [
+        (east, NORTH + 4000),
+        (west, NORTH + 4000),
+    ]
 
 
 def zigzag(chance, n):
     """Two sides of a border that goes to and fro over the whole of their boxes' overlap, side by side."""
     line = [(EAST + chance.randint(0, 40000), NORTH + 1000 * k) for k in range(n - 2)]
     top, bottom = line[-1][1], line[0][1]
-    return [(EAST - 50000, top), (EAST - 50000, bottom)] + line, [(EAST + 90000, bottom), (EAST + 90000, top)] + line[::-1]
+    return [(EAST - 50000, top), (EAST - 50000, bottom)] + line, [(EAST + 90000, bottom), (EAST + 90000, top)] + line[
+        ::-1
+    ]
 
 
 def zigzag_met(chance, n):
@@ -101,8 +116,11 @@ def notch(chance, n):
     """A ring between the walls of another, in its box but apart from it."""
     end = 1000 * (n - 5)
     floor = [(EAST + 1000 * k, NORTH + 10000 + chance.randint(0, 9000)) for k in range(n - 4)]
-    cup = [(EAST - 9000, NORTH), (EAST + end + 9000, NORTH), (EAST + end + 9000, NORTH + 90000)] + floor[::-1] + \
-        [(EAST - 9000, NORTH + 90000)]
+    cup = (
+        [(EAST - 9000, NORTH), (EAST + end + 9000, NORTH), (EAST + end + 9000, NORTH + 90000)]
+        + floor[::-1]
+        + [(EAST - 9000, NORTH + 90000)]
+    )
     under = [(EAST + end * k // (n - 3), NORTH + 20000 + chance.randint(0, 9000)) for k in range(n - 2)]
     return cup, under + [(EAST + end, NORTH + 60000), (EAST, NORTH + 60000)]
 
@@ -117,42 +135,53 @@ def spirals(chance, n):
         angle = 2 * math.pi * (k % turns) / turns
         far = start - k * step - inward * turns * step // 2
         return EAST + round(far * math.cos(angle)), NORTH + round(far * math.sin(angle))
+
     lines = [[at(k, inward) for k in range(half)] for inward in range(3)]
     return lines[0] + lines[1][::-1], lines[1] + lines[2][::-1]
 
 
 def slanted(chance, n):
-    """Two sides of a border that goes to and fro slantwise, so that nearly all boxes meet and little can be left out."""
+    """Two sides of a border that goes to and fro slantwise, so that nearly all boxes meet and little can be left
+    out."""
+
     def at(u, v):
         return EAST + u - v, NORTH + u + v
+
     line, top = [at(chance.randint(0, 40 * n), 10 * k) for k in range(n - 2)], 10 * (n - 3)
     return [at(-n, top), at(-n, 0)] + line, [at(41 * n, 0), at(41 * n, top)] + line[::-1]
 
 
 TRIANGLES = (anywhere, common_edge, common_corner, corner_on_edge, sliver)
+SIZES = (16, 256, 4096)
 SHAPES = (stars, border, zigzag, zigzag_met, spirals, notch, slanted)
 
 
-def groups(seed):
+def groups(seed, sizes):
     for kind in TRIANGLES:
         chance, pairs = random.Random(seed), []
-        while len(pairs) < 20000:
+        while len(pairs) < (20000 if len(sizes) > 1 else 100):
             first, second = kind(chance)
             if first and second:
                 pairs.append((first, second))
         yield "%s/3" % kind.__name__, 3, pairs
     for size, count, rounds in ((16, 1000, 3), (256, 100, 3), (4096, 5, 1)):
-        for kind in SHAPES:
+        for kind in SHAPES if size in sizes else ():
             chance = random.Random(seed)
             yield "%s/%d" % (kind.__name__, size), rounds, [kind(chance, size) for _ in range(count)]
 
 
-def write(path, seed):
+def write(path, seed, sizes):
     with open(path, "w") as out:
-        for name, rounds, pairs in groups(seed):
+        for name, rounds, pairs in groups(seed, sizes):
             out.write("# %s %d\n" % (name, rounds))
             for first, second in pairs:
                 out.write("%d %s\n" % (len(first), " ".join("%d %d" % c for c in first + second)))
+
+
+def pairs_of(seed, sizes=SIZES):
+    """The folder of the file of pairs of triangles, and of shapes of so many corners."""
+    name = "pairs %s, seed %d" % (" ".join(map(str, sizes)), seed)
+    return inputs.layer(name, lambda folder: write(os.path.join(folder, "pairs"), seed, sizes))
 
 
 def answers(command, path):
@@ -177,21 +206,17 @@ def main():
     parser.add_argument("--ours")
     parser.add_argument("--runs", type=int, default=3)
     parser.add_argument("--touches", action="store_true")
+    parser.add_argument("--sizes", default=",".join(map(str, SIZES)))
     given = parser.parse_args()
-    folder = tempfile.mkdtemp()
-    try:
-        path, peer = os.path.join(folder, "pairs"), os.path.join(folder, "geos_overlap")
-        write(path, given.seed)
-        subprocess.run(["g++", "-O2", "-o", peer, os.path.join(HERE, "geos_overlap.cpp"), "-lgeos_c"], check=True)
-        if not given.ours:
-            subprocess.run([os.path.join(HERE, "build.sh"), "bench_overlap", folder], check=True)
-        ours, geos = [], []
+    program, peer = inputs.ours("bench_overlap", given.ours), inputs.built("geos_overlap.cpp", "-lgeos_c")
+    if not peer:
+        sys.exit("geos_overlap.cpp cannot be built")
+    with pairs_of(given.seed, tuple(map(int, given.sizes.split(",")))) as folder:
+        path, ours, geos = os.path.join(folder, "pairs"), [], []
         for _ in range(given.runs):
-            ours.append(answers([given.ours or os.path.join(folder, "bench_overlap")], path))
+            ours.append(answers([program], path))
             geos.append(answers([peer, *["touches"] * given.touches], path))
-        ours, geos = least(ours, (1, 2)), least(geos, (1, 2))
-    finally:
-        shutil.rmtree(folder)
+    ours, geos = least(ours, (1, 2)), least(geos, (1, 2))
     peers = ("relate", "touches")[: 2 if given.touches else 1]
     print("microseconds a pair, and how many times ours; touches is intersects and not touches")
     print("%-20s %6s %6s %9s %9s" % ("pairs", "count", "meet", "clipping", "ours"),

@@ -39,8 +39,10 @@ def turned(rings):
     from shapely.geometry import Polygon
 
     c, s = math.cos(ANGLE), math.sin(ANGLE)
-    return [Polygon([(c * x / 100 - s * y / 100 + EAST, s * x / 100 + c * y / 100 + NORTH) for x, y in ring])
-            for ring in rings]
+    return [
+        Polygon([(c * x / 100 - s * y / 100 + EAST, s * x / 100 + c * y / 100 + NORTH) for x, y in ring])
+        for ring in rings
+    ]
 
 
 def cells_of(seed, wide, high, columns, rows, corners, tjunctions):
@@ -50,8 +52,11 @@ def cells_of(seed, wide, high, columns, rows, corners, tjunctions):
     pick = random.Random(seed)
     nodes, across, up = gencity.grid(pick, 0, 0, wide, high, columns, rows, corners, corners)
     other_across, other_up, _ = gencity.tjunctions(pick, nodes, across, up, columns, rows, tjunctions)
-    return [gencity.cell(nodes, across, up, other_across, other_up, row, column)
-            for row in range(rows) for column in range(columns)]
+    return [
+        gencity.cell(nodes, across, up, other_across, other_up, row, column)
+        for row in range(rows)
+        for column in range(columns)
+    ]
 
 
 def make(size, folder):
@@ -98,8 +103,16 @@ def command(words, profiled):
         pstats.Stats(profile).sort_stats("cumulative").print_stats(25)
         pstats.Stats(profile).sort_stats("tottime").print_stats(25)
     own = resource.getrusage(resource.RUSAGE_SELF)
-    print(json.dumps({"clock": took, "program": spent[0], "processor": own.ru_utime + own.ru_stime,
-                      "memory": own.ru_maxrss / 1024}))
+    print(
+        json.dumps(
+            {
+                "clock": took,
+                "program": spent[0],
+                "processor": own.ru_utime + own.ru_stime,
+                "memory": own.ru_maxrss / 1024,
+            }
+        )
+    )
     return status
 
 
@@ -112,8 +125,11 @@ def measured(name, words, folder, profiled):
     *said, last = ran.stdout.splitlines()
     costs = json.loads(last)
     print("\n".join(f"  {line}" for line in said))
-    print(f"{name}: {costs['clock']:.1f} s, {costs['program']:.1f} s of it in the program; without it "
-          f"{costs['processor']:.1f} s of a processor; {costs['memory']:.0f} MiB", flush=True)
+    print(
+        f"{name}: {costs['clock']:.1f} s, {costs['program']:.1f} s of it in the program; without it "
+        f"{costs['processor']:.1f} s of a processor; {costs['memory']:.0f} MiB",
+        flush=True,
+    )
     return "\n".join(said)
 
 

@@ -9,10 +9,12 @@ The clipping is timed beside the plain one, which looks from the first corner on
 more corners than N the plain one is left out where it is known to take long (the spiral and the crescent, minutes at
 4,096 corners): give --plain-limit 4096 to see it. All rings are counterclockwise, simple, and within 10^10.
 """
-import argparse, math, os, random, shutil, subprocess, sys, tempfile
+import argparse, math, random, subprocess, sys
 
-HERE = os.path.dirname(os.path.abspath(__file__))
-R = 5 * 10 ** 9
+sys.dont_write_bytecode = True
+import inputs
+
+R = 5 * 10**9
 
 
 def polar(radius, angle):
@@ -38,8 +40,8 @@ def ragged(n):
 def comb(n):
     """Teeth on a bar."""
     teeth = (n - 2) // 2
-    row = [((4 * (k // 2) + k % 2) * 10 ** 6, 10 ** 9 * (k % 2)) for k in range(2 * teeth)]
-    return [(0, -10 ** 6), (4 * teeth * 10 ** 6, -10 ** 6)] + row[::-1]
+    row = [((4 * (k // 2) + k % 2) * 10**6, 10**9 * (k % 2)) for k in range(2 * teeth)]
+    return [(0, -(10**6)), (4 * teeth * 10**6, -(10**6))] + row[::-1]
 
 
 def slanted(n):
@@ -59,8 +61,8 @@ def spiral(n):
 
 def crescent(n):
     """The worst for the plain clipping that is known: a long arc, and just inside it a second one with a corner in the
-    triangles of each two neighbours of the first. So no corner of the arc is an ear but at its end, and that ear is found
-    last."""
+    triangles of each two neighbours of the first. So no corner of the arc is an ear but at its end, and that ear is
+    found last."""
     arc = 2 * n // 3
     back = n - arc
     step = math.pi / arc
@@ -87,14 +89,8 @@ def main():
             rounds = 1000 if size < 100 else 50 if size < 1000 else 1 if size <= given.plain_limit else 5
             words = [("" if plain else "-") + kind.__name__, str(rounds)] + ["%d %d" % c for c in corners]
             lines.append(" ".join(words))
-    folder = tempfile.mkdtemp()
-    try:
-        if not given.ours:
-            subprocess.run([os.path.join(HERE, "build.sh"), "bench_rings", folder], check=True)
-        run = subprocess.run([given.ours or os.path.join(folder, "bench_rings")], input="\n".join(lines) + "\n", text=True,
-                             stdout=subprocess.PIPE)
-    finally:
-        shutil.rmtree(folder)
+    program = inputs.ours("bench_rings", given.ours)
+    run = subprocess.run([program], input="\n".join(lines) + "\n", text=True, stdout=subprocess.PIPE)
     if run.returncode != 0:
         sys.exit(run.stdout)
     print("%-10s %8s %12s %12s %12s %10s" % ("ring", "corners", "check us", "clip us", "plain us", "triangles"))
@@ -102,8 +98,17 @@ def main():
         name, count, check, clip, plain, triangles, good = line.split()
         if good != "true":
             sys.exit("not as wanted: " + line)
-        print("%-10s %8s %12.1f %12.1f %12s %10s" % (name.lstrip("-"), count, int(check) / 1000, int(clip) / 1000,
-                                                     "-" if plain == "0" else "%.1f" % (int(plain) / 1000), triangles))
+        print(
+            "%-10s %8s %12.1f %12.1f %12s %10s"
+            % (
+                name.lstrip("-"),
+                count,
+                int(check) / 1000,
+                int(clip) / 1000,
+                "-" if plain == "0" else "%.1f" % (int(plain) / 1000),
+                triangles,
+            )
+        )
 
 
 if __name__ == "__main__":

@@ -160,7 +160,8 @@ def lines_of(ring: List[List[int]]) -> Tuple[str, str]:
 
 
 class Wire:
-    """A connection of a clerk, that sends what is ready and reads the status and the body: it takes little of a processor."""
+    """A connection of a clerk, that sends what is ready and reads the status and the body: it takes little of a
+    processor."""
 
     def __init__(self, served: Served) -> None:
         self._host, port = re.fullmatch(r"http://(.*):(\d+)", served.address).groups()  # type: ignore[union-attr]

@@ -1,10 +1,12 @@
 // sessions.c - a client of `parcel_tool session` in plain C, and the bare disk beside it. It prints nanoseconds.
 //
-//   sessions ask DESK LINES ANSWERS      sends each line of the file LINES to DESK.in and waits for its answer at DESK.out
+//   sessions ask DESK LINES ANSWERS      sends each line of the file LINES to DESK.in and waits for its answer at
+//                                        DESK.out
 //   sessions flood DESK LINES ANSWERS    sends all lines while it reads their answers
 //   sessions sync FILE BYTES COUNT       appends so many lines of so many bytes to FILE, each synchronised by fdatasync
 //
-// ask and flood write what was answered to the file ANSWERS, when the time is taken. Each line has one line as its answer.
+// ask and flood write what was answered to the file ANSWERS, when the time is taken. Each line has one line as its
+// answer.
 #define _GNU_SOURCE
 #include <errno.h>
 #include <fcntl.h>

@@ -4,23 +4,26 @@
   sessions.py PROGRAM [--office PROGRAM] [--size S|M|L] [--runs N] [--count N] [--points N] [--workers N,N ..]
               [--only WORD ..]
 
-PROGRAM is the built parcel_tool. Its clients are plain C (sessions.c, by gcc), at named pipes in a temporary folder, which should be
-on the disk that a journal would lie on (TMPDIR). Edits and points are drawn with a fixed seed; all edits are accepted. Each thing is
-measured N times in turn with what it is compared with; the least times are printed, and ratios.
+PROGRAM is the built parcel_tool. Its clients are plain C (sessions.c, by gcc), at named pipes in a temporary folder,
+which should be on the disk that a journal would lie on (TMPDIR). Edits and points are drawn with a fixed seed; all
+edits are accepted. Each thing is measured N times in turn with what it is compared with; the least times are printed,
+and ratios.
 
-answer   one desk without a journal sends COUNT edits one by one, a merge, a split, a move, an insert and a straightening in turn: the
-         microseconds from line to answer; the same of `cat` at the same pipes; and, with --office (programs/bench_office), of `submit`
-         alone: what the answer takes beyond it
-journal  the same with a journal, by one desk and by eight at once (inserts and straightenings of parcels of their own): edits a second,
-         beside lines of the same length that a loop in C appends and synchronises one by one
-locate   POINTS lines `locate X Y` at one desk, and at four at once, sent while answers are read: lines a second of each desk, beside the
-         same lines through `cat`
-start    seconds until a session is ready, without a journal and with one of COUNT edits, beside `parcel_tool check` of the same layer,
-         with each number of workers; whatever else is measured has one for each processor
+answer   one desk without a journal sends COUNT edits one by one, a merge, a split, a move, an insert and a
+         straightening in turn: the microseconds from line to answer; the same of `cat` at the same pipes; and, with
+         --office (programs/bench_office), of `submit` alone: what the answer takes beyond it
+journal  the same with a journal, by one desk and by eight at once (inserts and straightenings of parcels of their own):
+         edits a second, beside lines of the same length that a loop in C appends and synchronises one by one
+locate   POINTS lines `locate X Y` at one desk, and at four at once, sent while answers are read: lines a second of each
+         desk, beside the same lines through `cat`
+start    seconds until a session is ready, without a journal and with one of COUNT edits, beside `parcel_tool check` of
+         the same layer, with each number of workers; whatever else is measured has one for each processor
 """
 import argparse, os, random, shutil, struct, subprocess, sys, tempfile, time
 
-HERE = os.path.dirname(os.path.abspath(__file__))
+sys.dont_write_bytecode = True
+import inputs
+
 DESKS = 8
 
 
@@ -30,8 +33,8 @@ def rings_of(path):
         data = file.read()
     rings, at = [], 100
     while at < len(data):
-        words, = struct.unpack_from(">i", data, at + 4)
-        count, = struct.unpack_from("<i", data, at + 48)
+        (words,) = struct.unpack_from(">i", data, at + 4)
+        (count,) = struct.unpack_from("<i", data, at + 48)
         flat = struct.unpack_from("<%dd" % (2 * count), data, at + 56)
         rings.append([(int(x) * 10, int(y) * 10) for x, y in zip(flat[::2], flat[1::2])][:0:-1])
         at += 8 + 2 * words
@@ -74,14 +77,19 @@ def edits_of_all_kinds(rings, count):
         border = border_of(rings[k], rings[k + 1])
         bent = border[:1] + [(x + 1, y) for x, y in border[1:-1]] + border[-1:]
         outer = next(at for at, edge in enumerate(edges_of(rings[k])) if edge[0] == border[-1])
-        lines += [text_of("merge", k + 1, k + 2), text_of("split", new, *border), text_of("move", new + 1, new + 2, *bent),
-                  *put_in_and_out(rings[k], outer)]
+        lines += [
+            text_of("merge", k + 1, k + 2),
+            text_of("split", new, *border),
+            text_of("move", new + 1, new + 2, *bent),
+            *put_in_and_out(rings[k], outer),
+        ]
         new += 5
     return lines[:count]
 
 
 def edits_without_ids(rings, count, desk):
-    """Lines of inserts and straightenings of parcels that are this desk's alone: every second one in each direction is anyone's."""
+    """Lines of inserts and straightenings of parcels that are this desk's alone: every second one in each direction is
+    anyone's."""
     lines = []
     side = int(len(rings) ** 0.5)
     mine = [k for k in range(len(rings)) if k // side % 2 == 0 and k % side % 2 == 0]
@@ -102,8 +110,9 @@ class Session:
         named = [word for desk in self.desks for word in ("--desk", desk)]
         layer = [os.path.join(home, "city", part + ".shp") for part in ("city", "parcels")]
         begun = time.perf_counter()
-        self.child = subprocess.Popen([program, "session", *layer, "--unit", "cm", *named, *words], stdin=subprocess.PIPE,
-                                      stdout=subprocess.PIPE)
+        self.child = subprocess.Popen(
+            [program, "session", *layer, "--unit", "cm", *named, *words], stdin=subprocess.PIPE, stdout=subprocess.PIPE
+        )
         if not self.child.stdout.readline().startswith(b"ready "):
             sys.exit("the session did not begin")
         self.seconds = time.perf_counter() - begun
@@ -175,7 +184,10 @@ def show_answer(given, home, rings):
     print("answer: %d edits, %.1f us each; cat %.1f us (%.2f)" % (len(lines), each, cats, each / cats), end="")
     if given.office:
         submit = submit_alone(given, home)
-        print("; submit %.1f us (%.2f), beyond it %.1f us (wanted: at most 60)" % (submit, each / submit, each - submit), end="")
+        print(
+            "; submit %.1f us (%.2f), beyond it %.1f us (wanted: at most 60)" % (submit, each / submit, each - submit),
+            end="",
+        )
     print(flush=True)
 
 
@@ -184,7 +196,9 @@ def submit_alone(given, home):
     layer = [os.path.join(home, "city", part + ".shp") for part in ("city", "parcels")]
     best = []
     for _ in range(given.runs):
-        told = subprocess.run([given.office, "pairs", *layer, "1", str(given.count)], stdout=subprocess.PIPE, text=True, check=True)
+        told = subprocess.run(
+            [given.office, "pairs", *layer, "1", str(given.count)], stdout=subprocess.PIPE, text=True, check=True
+        )
         count, nanos = map(int, told.stdout.splitlines()[2].split()[:2])
         best.append(nanos / count / 1000)
     return min(best)
@@ -209,8 +223,11 @@ def show_journal(given, home, rings):
         words = [given.client, "sync", os.path.join(home, "bare%d" % run), str(length), str(len(alone))]
         rates["a loop"].append(len(alone) / int(subprocess.run(words, stdout=subprocess.PIPE, check=True).stdout) * 1e9)
     one, eight, bare = (max(rates[name]) for name in ("one desk", "eight desks", "a loop"))
-    print("journal: one desk %.0f edits a second, eight desks %.0f; synchronised appends %.0f (%.2f, %.2f)" % (
-        one, eight, bare, one / bare, eight / bare), flush=True)
+    print(
+        "journal: one desk %.0f edits a second, eight desks %.0f; synchronised appends %.0f (%.2f, %.2f)"
+        % (one, eight, bare, one / bare, eight / bare),
+        flush=True,
+    )
 
 
 def show_locate(given, home, rings):
@@ -229,8 +246,11 @@ def show_locate(given, home, rings):
             bare.append(max(clients(given.client, "flood", cat.desks, files, "")))
             cat.close()
         rate, cats = (len(lines) / min(it) for it in (ours, bare))
-        print("locate, %d at once: %.0f lines a second a desk (wanted: 100000); cat %.0f (%.2f)" % (desks, rate, cats, rate / cats),
-              flush=True)
+        print(
+            "locate, %d at once: %.0f lines a second a desk (wanted: 100000); cat %.0f (%.2f)"
+            % (desks, rate, cats, rate / cats),
+            flush=True,
+        )
 
 
 def show_start(given, home, rings):
@@ -270,10 +290,11 @@ def main():
     given = parser.parse_args()
     given.program = os.path.abspath(given.program)
     with tempfile.TemporaryDirectory() as home:
-        given.client = os.path.join(home, "sessions")
-        subprocess.run(["gcc", "-O2", "-o", given.client, os.path.join(HERE, "sessions.c")], check=True)
-        make = [sys.executable, os.path.join(HERE, "gencity.py"), "--size", given.size, os.path.join(home, "city")]
-        subprocess.run(make, check=True, stdout=subprocess.DEVNULL)
+        given.client = inputs.built("sessions.c")
+        if not given.client:
+            sys.exit("sessions.c cannot be built")
+        with inputs.city_layer(given.size) as folder:
+            shutil.copytree(folder, os.path.join(home, "city"))
         rings = rings_of(os.path.join(home, "city", "parcels.shp"))
         for name, show in JOBS.items():
             if any(word in name for word in given.only):

@@ -1,28 +1,30 @@
 #!/usr/bin/env python3
-"""tiling.py - `parcel_tool check` over cities S, M and L, with and without T junctions, and over hostile layers, and `export`.
+"""tiling.py - `parcel_tool check` over cities S, M and L, with and without T junctions, and over hostile layers, and
+`export`.
 
   tiling.py PROGRAM [--runs N] [--workers N,N ..] [--limit SECONDS] [--only WORD ..]
             [--without WORD ..] [--export]
 
-PROGRAM is the built parcel_tool (benches/README.md says where it lies). The layers are made in a temporary folder with a
-fixed seed. Each job is a whole process with so many workers, run N times in turn with the others; the best time and the
-largest memory are printed, a column for each number of workers, and the answer, which has to be the same for all; the last
-columns are how many times as long as `check` with this number a job takes. Over the cities GEOS is asked too
-(geos_tiling.cpp, with Debian's libgeos-dev and g++), on one thread: whether the parcels' union equals the city and their
-areas sum to it, and whether two parcels' interiors meet (relate); without it these rows are left out. With --export the
-cities are exported, too. `wrong` is a city M with one parcel moved by a centimetre over the city's border, and one taken
-out. With --only a layer has one of these words in its name, and with --without none of those.
-"""
-import argparse, os, shutil, subprocess, sys, tempfile
+PROGRAM is the built parcel_tool (benches/README.md says where it lies). The layers are made with a fixed seed
+(inputs.py). Each job is a whole process with so many workers, run N times in turn with the others; the best time and
+the largest memory are printed, a column for each number of workers, and the answer, which has to be the same for all;
+the last columns are how many times as long as `check` with this number a job takes. Over the cities GEOS is asked too
+(geos_tiling.cpp, with Debian's libgeos-dev and g++), on one thread: whether the parcels' union equals the city and
+their areas sum to it, and whether two parcels' interiors meet (relate); without it these rows are left out. With
+--export the cities are exported, too. `wrong` is a city M with one parcel moved by a centimetre over the city's border,
+and one taken out. With --only a layer has one of these words in its name, and with --without none of those. """
+import argparse, os, subprocess, sys
 
 HERE = os.path.dirname(os.path.abspath(__file__))
 sys.dont_write_bytecode = True
 import gencity
+import inputs
 import nodes
 
 
 def halves(path, side, far):
-    """The two parts of the square from -side to side on both axes, that a path from its lower side to its upper one cuts."""
+    """The two parts of the square from -side to side on both axes, that a path from its lower side to its upper one
+    cuts."""
     left = path + [(-side, side), (-side, -side)]
     right = path[::-1] + [(side, -side), (side, side)]
     return [[(x + far, y) for x, y in ring] for ring in (left, right)]
@@ -53,19 +55,22 @@ def spiral(count, side):
 
 
 def arc(count, side):
-    """A path of count corners from the lower side to the upper one, which turns the same way at each: one part is convex."""
+    """A path of count corners from the lower side to the upper one, which turns the same way at each: one part is
+    convex."""
     heights = [-side + 2 * side * k // (count - 1) for k in range(count)]
     return [(side // 2 - y * y // (2 * side), y) for y in heights]
 
 
 def pairs(path_of, count, side):
     """122 squares in a row, each cut in two by a path: 244 rings of nearly 4,096 corners."""
+
     def make(folder):
         path, rings = path_of(count, side), []
         for k in range(122):
             rings += halves(path, side, 2 * side * k)
         right = 2 * side * 121 + side
         nodes.layers(folder, [(-side, -side), (right, -side), (right, side), (-side, side)], rings)
+
     return make
 
 
@@ -80,6 +85,7 @@ def wrong(folder):
             rings[5000][0] = (x - 1, y)
             del rings[7000]
         return keep(path, rings, dbf)
+
     gencity.write, given = write, sys.argv
     sys.argv = ["gencity.py", "--size", "M", folder]
     try:
@@ -93,28 +99,41 @@ def wrong(folder):
         gencity.write, sys.argv = keep, given
 
 
-CITIES = (("city S", nodes.city("S")), ("city M", nodes.city("M")), ("city L", nodes.city("L")),
-          ("city S, T", nodes.city("S", "--tjunction", "0.3")), ("city M, T", nodes.city("M", "--tjunction", "0.3")),
-          ("city L, T", nodes.city("L", "--tjunction", "0.04")), ("city M, wrong", wrong))
+CITIES = (
+    ("city S", nodes.city("S")),
+    ("city M", nodes.city("M")),
+    ("city L", nodes.city("L")),
+    ("city S, T", nodes.city("S", "--tjunction", "0.3")),
+    ("city M, T", nodes.city("M", "--tjunction", "0.3")),
+    ("city L, T", nodes.city("L", "--tjunction", "0.04")),
+    ("city M, wrong", wrong),
+)
 
-HOSTILE = (("strips", nodes.strips(0, False)), ("strips, shuffled", nodes.strips(0, True)),
-           ("slanted strips", nodes.strips(5 * 10 ** 9, False)), ("strips, cut", nodes.cut(0)), ("slanted, cut", nodes.cut(5)),
-           ("rows", nodes.rows), ("corner", nodes.corner), ("zigzags", pairs(zigzag, 4092, 10 ** 6)),
-           ("spirals", pairs(spiral, 4088, 10 ** 6)), ("arcs", pairs(arc, 4092, 4 * 10 ** 7)), ("crossed", nodes.crossed))
-
-
-def geos(folder):
-    """The program of GEOS's answers, or None where it cannot be built."""
-    made = os.path.join(folder, "geos_tiling")
-    words = ["g++", "-O2", "-o", made, os.path.join(HERE, "geos_tiling.cpp"), "-lgeos_c"]
-    return made if shutil.which("g++") and subprocess.run(words, stderr=subprocess.DEVNULL).returncode == 0 else None
+HOSTILE = (
+    ("strips", nodes.strips(0, False)),
+    ("strips, shuffled", nodes.strips(0, True)),
+    ("slanted strips", nodes.strips(5 * 10**9, False)),
+    ("strips, cut", nodes.cut(0)),
+    ("slanted, cut", nodes.cut(5)),
+    ("rows", nodes.rows),
+    ("corner", nodes.corner),
+    ("zigzags", pairs(zigzag, 4092, 10**6)),
+    ("spirals", pairs(spiral, 4088, 10**6)),
+    ("arcs", pairs(arc, 4092, 4 * 10**7)),
+    ("crossed", nodes.crossed),
+)
 
 
 def run(words, limit):
-    """Seconds, peak KiB and the last line of what one process printed, on whichever stream; None where it took too long."""
+    """Seconds, peak KiB and the last line of what one process printed, on whichever stream; None where it took too
+    long."""
     timed = ["/usr/bin/env", "python3", "-c", RUNNER, str(limit), *words]
     said = subprocess.run(timed, stdout=subprocess.PIPE, text=True).stdout.split("\n", 2)
-    return (None, 0, "more than %d seconds" % limit) if said[0] == "late" else (float(said[0]), int(said[1]), said[2].strip())
+    return (
+        (None, 0, "more than %d seconds" % limit)
+        if said[0] == "late"
+        else (float(said[0]), int(said[1]), said[2].strip())
+    )
 
 
 # a process of its own, so that a child's peak does not count what this one holds
@@ -134,7 +153,8 @@ print(seconds, resource.getrusage(resource.RUSAGE_CHILDREN).ru_maxrss, text.stri
 
 
 def measure(jobs, runs, limit):
-    """The least seconds, the largest KiB and the last answer of each job and number of workers; no seconds where it took too long."""
+    """The least seconds, the largest KiB and the last answer of each job and number of workers; no seconds where it
+    took too long."""
     best = {}
     for _ in range(runs):
         for key, words in jobs:
@@ -149,7 +169,7 @@ def measure(jobs, runs, limit):
 def jobs_of(given, is_city, peer, folder, workers):
     """The command lines for the layers of a folder, by their names and numbers of workers; GEOS's have none."""
     files = [os.path.join(folder, part + ".shp") for part in ("city", "parcels")]
-    ends = {"check": [], "export": ["--out", os.path.join(folder, "out")]}
+    ends = {"check": [], "export": ["--out", os.path.join(inputs.room(), "out")]}
     asked = ["check", "export"] if given.export and is_city else ["check"]
     jobs = [((job, number), [given.program, job, *files, "--unit", "cm", "--workers", number, *ends[job]])
             for job in asked for number in workers]
@@ -161,10 +181,18 @@ def show(name, best, workers):
     for job in dict.fromkeys(job for job, _ in best):
         told = {number: best[job, number if (job, number) in best else None] for number in workers}
         times = [told[number][0] for number in workers]
-        ratios = [it / best["check", number][0] if it and best["check", number][0] else 0 for it, number in zip(times, workers)]
+        ratios = [
+            it / best["check", number][0] if it and best["check", number][0] else 0
+            for it, number in zip(times, workers)
+        ]
         alone = (job, None) in best
-        columns = ["%8s" % ("" if alone and at else "late" if it is None else "%.3f" % it) for at, it in enumerate(times)]
-        memory = ["%7s" % ("" if alone and at else "%.1f" % (told[number][1] / 1024)) for at, number in enumerate(workers)]
+        columns = [
+            "%8s" % ("" if alone and at else "late" if it is None else "%.3f" % it) for at, it in enumerate(times)
+        ]
+        memory = [
+            "%7s" % ("" if alone and at else "%.1f" % (told[number][1] / 1024))
+            for at, number in enumerate(workers)
+        ]
         texts = {told[number][2] for number in workers}
         answer = texts.pop() if len(texts) == 1 else "NOT THE SAME: %s" % "; ".join(sorted(texts))
         print("%-18s %-8s" % (name, job), *columns, *memory, *("%7.2f" % it for it in ratios), "", answer, flush=True)
@@ -180,24 +208,16 @@ def main():
     parser.add_argument("--without", nargs="+", default=[])
     parser.add_argument("--export", action="store_true")
     given = parser.parse_args()
-    workers, home = given.workers.split(","), tempfile.mkdtemp()
-    try:
-        peer = geos(home)
-        heads = [end % number for end in ("%s: s", "%s: MiB", "%s: x") for number in workers]
-        print("%-18s %-8s" % ("layer", "job"), *("%8s" % it for it in heads[:len(workers)]),
-              *("%7s" % it for it in heads[len(workers):]), "", "answer")
-        for name, make in CITIES + HOSTILE:
-            if not nodes.is_asked(name, given.only) or nodes.is_asked(name, given.without):
-                continue
-            folder = tempfile.mkdtemp()
-            try:
-                nodes.apart(make, folder)
-                best = measure(jobs_of(given, (name, make) in CITIES, peer, folder, workers), given.runs, given.limit)
-            finally:
-                shutil.rmtree(folder)
-            show(name, best, workers)
-    finally:
-        shutil.rmtree(home)
+    workers, peer = given.workers.split(","), inputs.built("geos_tiling.cpp", "-lgeos_c")
+    heads = [end % number for end in ("%s: s", "%s: MiB", "%s: x") for number in workers]
+    print("%-18s %-8s" % ("layer", "job"), *("%8s" % it for it in heads[:len(workers)]),
+          *("%7s" % it for it in heads[len(workers):]), "", "answer")
+    for name, make in CITIES + HOSTILE:
+        if not nodes.is_asked(name, given.only) or nodes.is_asked(name, given.without):
+            continue
+        with inputs.layer(name, make) as folder:
+            best = measure(jobs_of(given, (name, make) in CITIES, peer, folder, workers), given.runs, given.limit)
+        show(name, best, workers)
 
 
 if __name__ == "__main__":

@@ -3,9 +3,9 @@
 
   zone_areas.py PROGRAM [--size S|M|L] [--runs N] [--workers N,N ..]
 
-PROGRAM is the built parcel_tool (benches/README.md says where it lies). The city is made in a temporary folder with a
-fixed seed. With each number of workers `overlay` is run in turn with and without `--areas`, N times each, a whole process:
-the least seconds by the clock and of processors of each are printed, the largest memory, and by how much the seconds
+PROGRAM is the built parcel_tool (benches/README.md says where it lies). The city is made with a fixed seed (inputs.py).
+With each number of workers `overlay` is run in turn with and without `--areas`, N times each, a whole process: the
+least seconds by the clock and of processors of each are printed, the largest memory, and by how much the seconds
 differ, a column for each number. What `--areas` prints has to be the same for all numbers. GEOS (Debian's
 python3-shapely) then finds the intersection and its area of the same pairs, those of the parcels that lie in several
 zones, called from Python: its seconds of a processor, and by how much the areas that it finds for a parcel are off
@@ -15,12 +15,11 @@ import argparse
 import os
 import subprocess
 import sys
-import tempfile
 import time
 from collections import defaultdict
 
-HERE = os.path.dirname(os.path.abspath(__file__))
 sys.dont_write_bytecode = True
+import inputs  # noqa: E402
 from zoning import rings_of  # noqa: E402
 
 
@@ -41,13 +40,14 @@ def run(words, path):
 
 
 def measure(program, folder, workers, runs):
-    """The least seconds of both kinds and the most KiB, without areas and with them, by the number of workers; what is told."""
+    """The least seconds of both kinds and the most KiB, without areas and with them, by the number of workers; what is
+    told."""
     files = [os.path.join(folder, f"{name}.shp") for name in ("city", "parcels", "zones")]
     known, told = {}, set()
     for _ in range(runs):
         for number in workers:
             for more in ((), ("--areas",)):
-                path = os.path.join(folder, "told")
+                path = os.path.join(inputs.room(), "told")
                 words = [program, "overlay", "--unit", "mm", *files, "--workers", number, *more]
                 now = run(words, path)
                 old = known.get((number, more), now)
@@ -94,9 +94,7 @@ def main():
     parser.add_argument("--workers", default="1,2,4")
     given = parser.parse_args()
     workers = given.workers.split(",")
-    with tempfile.TemporaryDirectory() as folder:
-        make = [sys.executable, os.path.join(HERE, "gencity.py"), "--size", given.size, folder]
-        subprocess.run(make, check=True, stdout=subprocess.DEVNULL)
+    with inputs.city_layer(given.size) as folder:
         known, told = measure(os.path.abspath(given.program), folder, workers, given.runs)
         pairs = split_pairs(told)
         count = sum(map(len, pairs.values()))

@@ -3,20 +3,22 @@
 
   zoning.py PROGRAM [--pairs PROGRAM] [--runs N] [--workers N,N ..] [--limit SECONDS] [--only WORD ..]
 
-PROGRAM is the built parcel_tool (benches/README.md says where it lies). The layers are made in a temporary folder with a fixed seed. For each, and
-with each number of workers, `check` of the parcels, `check` of the zones and `overlay` are run in turn, N times, each a whole process; the best
-time and the largest memory of each are printed, a column for each number, and what an overlay takes beyond both checks: that is the copy of the
-parcels, the pairs and the report. What each prints has to be the same for all numbers. Over the cities GEOS finds the pairs of the same files
-(geos_pairs.cpp, with Debian's libgeos-dev and g++), by relate, and by intersects and not touches: its search alone, without the reading, over
-layers that nobody checked. The lists of pairs are compared.
-With --pairs, programs/bench_overlay as build.sh made it, the rounds alone are timed, too: in one process that has loaded both
-layers, the quickest of N from its beginning to its table, for each number of workers.
+PROGRAM is the built parcel_tool (benches/README.md says where it lies). The layers are made with a fixed seed
+(inputs.py). For each, and with each number of workers, `check` of the parcels, `check` of the zones and `overlay` are
+run in turn, N times, each a whole process; the best time and the largest memory of each are printed, a column for each
+number, and what an overlay takes beyond both checks: that is the copy of the parcels, the pairs and the report. What
+each prints has to be the same for all numbers. Over the cities GEOS finds the pairs of the same files (geos_pairs.cpp,
+with Debian's libgeos-dev and g++), by relate, and by intersects and not touches: its search alone, without the reading,
+over layers that nobody checked. The lists of pairs are compared.
+With --pairs, programs/bench_overlay as build.sh made it, the rounds alone are timed, too: in one process that has
+loaded both layers, the quickest of N from its beginning to its table, for each number of workers.
 """
-import argparse, os, shutil, struct, subprocess, sys, tempfile
+import argparse, os, struct, subprocess, sys
 
 HERE = os.path.dirname(os.path.abspath(__file__))
 sys.dont_write_bytecode = True
 import gencity
+import inputs
 import nodes
 import tiling
 
@@ -27,7 +29,8 @@ def layers(folder, outline, parcels, zones):
 
 
 def corner(folder):
-    """All parcels but one in a corner of the city, so in one cell of its index; the zones are four quarters of that corner, and the rest."""
+    """All parcels but one in a corner of the city, so in one cell of its index; the zones are four quarters of that
+    corner, and the rest."""
     nodes.corner(folder)
     half, side = 12800, 25600
     last = [(half, half), (side, half), (side, side - 100), (side - 100, side - 100), (side - 100, side), (half, side)]
@@ -78,20 +81,14 @@ def clean(ring):
 
 CITIES = tuple(("city " + size, nodes.city(size)) for size in "SML")
 
-SKEWED = (("corner", corner), ("crosswise", crosswise), ("stairs", stairs))
-
-
-def geos(folder):
-    """The program of GEOS's pairs, or None where it cannot be built."""
-    made = os.path.join(folder, "geos_pairs")
-    words = ["g++", "-O2", "-o", made, os.path.join(HERE, "geos_pairs.cpp"), "-lgeos_c"]
-    return made if shutil.which("g++") and subprocess.run(words, stderr=subprocess.DEVNULL).returncode == 0 else None
+SKEWED = (("corner, zones", corner), ("crosswise", crosswise), ("stairs", stairs))
 
 
 def measure(program, folder, runs, workers, limit):
     """The least seconds and the largest KiB of each job with each number of workers."""
     files = {part: os.path.join(folder, part + ".shp") for part in ("city", "parcels", "zones")}
-    jobs = {"check parcels": ["check", files["city"], files["parcels"]], "check zones": ["check", files["city"], files["zones"]],
+    jobs = {"check parcels": ["check", files["city"], files["parcels"]],
+            "check zones": ["check", files["city"], files["zones"]],
             "overlay": ["overlay", *files.values()]}
     known = {}
     for _ in range(runs):
@@ -112,16 +109,24 @@ def show(name, known, workers):
     jobs = list(dict.fromkeys(job for job, _ in known))
     for job in jobs:
         told = [known[job, number] for number in workers]
-        print("%-10s %-14s" % (name, job), *("%7.3f s" % it[0] for it in told), *("%5d MiB" % (it[1] / 1024) for it in told))
+        print(
+            "%-13s %-14s" % (name, job),
+            *("%7.3f s" % it[0] for it in told),
+            *("%5d MiB" % (it[1] / 1024) for it in told),
+        )
     beyond = [known["overlay", it][0] - known["check parcels", it][0] - known["check zones", it][0] for it in workers]
-    print("%-10s %-14s" % (name, "beyond checks"), *("%7.3f s" % it for it in beyond), flush=True)
+    print("%-13s %-14s" % (name, "beyond checks"), *("%7.3f s" % it for it in beyond), flush=True)
 
 
 def pairs_alone(program, folder, runs, workers):
     """The seconds of the quickest round for each number of workers, and how many pairs it has."""
     files = [os.path.join(folder, part + ".shp") for part in ("city", "parcels", "zones")]
-    told = [subprocess.run([program, *files, it, str(runs)], stdout=subprocess.PIPE, text=True).stdout.split() for it in workers]
-    print("  the pairs alone:", *("%.3f s" % (int(it[1]) / 1e6) for it in told), "", *dict.fromkeys(it[2] for it in told), "pairs", flush=True)
+    told = [
+        subprocess.run([program, *files, it, str(runs)], stdout=subprocess.PIPE, text=True).stdout.split()
+        for it in workers
+    ]
+    each = ["%.3f s" % (int(it[1]) / 1e6) for it in told]
+    print("  the pairs alone:", *each, "", *dict.fromkeys(it[2] for it in told), "pairs", flush=True)
 
 
 def compare(program, peer, folder):
@@ -132,7 +137,10 @@ def compare(program, peer, folder):
     for way in ("touch", "relate"):
         theirs = subprocess.run([peer, way, *files[1:]], stdout=subprocess.PIPE, stderr=subprocess.PIPE, text=True)
         same = "the same" if theirs.stdout.splitlines() == pairs else "NOT THE SAME"
-        print("  GEOS %s: %.3f s, %d pairs, %s" % (way, int(theirs.stderr.split()[-1]) / 1e6, len(pairs), same), flush=True)
+        print(
+            "  GEOS %s: %.3f s, %d pairs, %s" % (way, int(theirs.stderr.split()[-1]) / 1e6, len(pairs), same),
+            flush=True,
+        )
 
 
 def main():
@@ -144,25 +152,17 @@ def main():
     parser.add_argument("--limit", type=float, default=60)
     parser.add_argument("--only", nargs="+", default=[""])
     given = parser.parse_args()
-    workers, home = given.workers.split(","), tempfile.mkdtemp()
-    try:
-        peer = geos(home)
-        print("%-10s %-14s" % ("layer", "with workers"), *("%9s" % it for it in workers))
-        for name, make in CITIES + SKEWED:
-            if not nodes.is_asked(name, given.only):
-                continue
-            folder = tempfile.mkdtemp()
-            try:
-                nodes.apart(make, folder)
-                show(name, measure(given.program, folder, given.runs, workers, given.limit), workers)
-                if given.pairs:
-                    pairs_alone(given.pairs, folder, given.runs, workers)
-                if peer and name.startswith("city"):
-                    compare(given.program, peer, folder)
-            finally:
-                shutil.rmtree(folder)
-    finally:
-        shutil.rmtree(home)
+    workers, peer = given.workers.split(","), inputs.built("geos_pairs.cpp", "-lgeos_c")
+    print("%-13s %-14s" % ("layer", "with workers"), *("%9s" % it for it in workers))
+    for name, make in CITIES + SKEWED:
+        if not nodes.is_asked(name, given.only):
+            continue
+        with inputs.layer(name, make) as folder:
+            show(name, measure(given.program, folder, given.runs, workers, given.limit), workers)
+            if given.pairs:
+                pairs_alone(given.pairs, folder, given.runs, workers)
+            if peer and name.startswith("city"):
+                compare(given.program, peer, folder)
 
 
 if __name__ == "__main__":

@@ -24,7 +24,9 @@ def kit_crates(root: Path) -> List[str]:
 
 def licence_of(folder: Path) -> str:
     """The licence that a crate of the kit declares by its files, as SPDX names it."""
-    named = [spdx for file, spdx in (("LICENSE-APACHE", "Apache-2.0"), ("LICENSE-MIT", "MIT")) if (folder / file).is_file()]
+    named = [
+        spdx for file, spdx in (("LICENSE-APACHE", "Apache-2.0"), ("LICENSE-MIT", "MIT")) if (folder / file).is_file()
+    ]
     return " OR ".join(named) if named else "NOASSERTION"
 
 
@@ -37,9 +39,17 @@ def ported_version(folder: Path, kit: str) -> str:
 
 def package(name: str, version: str, licence: str, says: str, sha256: str = "") -> Package:
     """A package of the bill."""
-    made: Package = {"SPDXID": "SPDXRef-" + re.sub(r"[^A-Za-z0-9.-]", "-", name), "name": name, "versionInfo": version,
-                     "downloadLocation": "NOASSERTION", "filesAnalyzed": False, "licenseConcluded": "NOASSERTION",
-                     "licenseDeclared": licence, "copyrightText": "NOASSERTION", "comment": says}
+    made: Package = {
+        "SPDXID": "SPDXRef-" + re.sub(r"[^A-Za-z0-9.-]", "-", name),
+        "name": name,
+        "versionInfo": version,
+        "downloadLocation": "NOASSERTION",
+        "filesAnalyzed": False,
+        "licenseConcluded": "NOASSERTION",
+        "licenseDeclared": licence,
+        "copyrightText": "NOASSERTION",
+        "comment": says,
+    }
     if sha256:
         made["checksums"] = [{"algorithm": "SHA256", "checksumValue": sha256}]
     return made
@@ -57,8 +67,11 @@ def archives_of(parts: str) -> Dict[str, List[str]]:
 def packages(root: Path, kit: Path, versions: Dict[str, str], sums: Dict[str, str], parts: str) -> List[Package]:
     """The program first, and then all that is linked into it. `versions` and `sums` are by package and by archive."""
     linked = archives_of(parts)
-    names = {"libc.a": ("GNU C library", "LGPL-2.1-or-later"), "libgcc.a": ("libgcc", "GPL-3.0-or-later WITH GCC-exception-3.1"),
-             "libgcc_eh.a": ("libgcc_eh", "GPL-3.0-or-later WITH GCC-exception-3.1")}
+    names = {
+        "libc.a": ("GNU C library", "LGPL-2.1-or-later"),
+        "libgcc.a": ("libgcc", "GPL-3.0-or-later WITH GCC-exception-3.1"),
+        "libgcc_eh.a": ("libgcc_eh", "GPL-3.0-or-later WITH GCC-exception-3.1"),
+    }
     made = [package("parcel_tool", versions["parcel_tool"], "NONE", "no licence is given yet", sums["parcel_tool"])]
     for archive, inside in sorted(linked.items()):
         name, licence = names.get(archive, (f"Rattle kit: {archive}", "NOASSERTION"))
@@ -66,8 +79,10 @@ def packages(root: Path, kit: Path, versions: Dict[str, str], sums: Dict[str, st
         made.append(package(name, versions.get(archive, versions["kit"]), licence, says, sums.get(archive, "")))
     made.append(package("Rattle standard library", versions["kit"], "NOASSERTION", "compiled into the object file"))
     says = "a crate of the kit, compiled into the object file, with those of the kit that it stands on"
-    made += [package(it, ported_version(kit / "rattle" / it, versions["kit"]), licence_of(kit / "rattle" / it), says)
-             for it in kit_crates(root)]
+    made += [
+        package(it, ported_version(kit / "rattle" / it, versions["kit"]), licence_of(kit / "rattle" / it), says)
+        for it in kit_crates(root)
+    ]
     return made
 
 
@@ -76,11 +91,19 @@ def bill(root: Path, kit: Path, versions: Dict[str, str], sums: Dict[str, str], 
     found = packages(root, kit, versions, sums, parts)
     program = str(found[0]["SPDXID"])
     relations = [{"spdxElementId": "SPDXRef-DOCUMENT", "relationshipType": "DESCRIBES", "relatedSpdxElement": program}]
-    relations += [{"spdxElementId": program, "relationshipType": "STATIC_LINK", "relatedSpdxElement": str(it["SPDXID"])} for it in found[1:]]
+    relations += [
+        {"spdxElementId": program, "relationshipType": "STATIC_LINK", "relatedSpdxElement": str(it["SPDXID"])}
+        for it in found[1:]
+    ]
     created = datetime.fromtimestamp(seconds, timezone.utc).strftime("%Y-%m-%dT%H:%M:%SZ")
-    document = {"spdxVersion": "SPDX-2.3", "dataLicense": "CC0-1.0", "SPDXID": "SPDXRef-DOCUMENT",
-                "name": f"parcel_tool-{versions['parcel_tool']}",
-                "documentNamespace": f"urn:gandovel:spdx:parcel_tool:{versions['parcel_tool']}:{sums['parcel_tool']}",
-                "creationInfo": {"created": created, "creators": ["Tool: scripts/release"]},
-                "packages": found, "relationships": relations}
+    document = {
+        "spdxVersion": "SPDX-2.3",
+        "dataLicense": "CC0-1.0",
+        "SPDXID": "SPDXRef-DOCUMENT",
+        "name": f"parcel_tool-{versions['parcel_tool']}",
+        "documentNamespace": f"urn:gandovel:spdx:parcel_tool:{versions['parcel_tool']}:{sums['parcel_tool']}",
+        "creationInfo": {"created": created, "creators": ["Tool: scripts/release"]},
+        "packages": found,
+        "relationships": relations,
+    }
     return (json.dumps(document, indent=1, ensure_ascii=False) + "\n").encode()

@@ -48,20 +48,44 @@ def bash(program: str, commands: List[Command], top: List[str]) -> str:
         behind.append(f"    {option.words[-1]}) {what}; return ;;")
     for one in commands:
         cases.append(f"    {one.name}) options='{' '.join(word for it in one.options for word in it.words)}' ;;")
-    return "\n".join([
-        f"# Made by scripts/help_pages from what {program} --help prints.",
-        f"_{program}_words() {{ COMPREPLY=($(compgen -W \"$1\" -- \"$word\")); }}",
-        f"_{program}_files() {{", "  local name plain=\"${word//\\\\/}\"", "  plain=\"${plain#[\\\"\\']}\"",
-        "  compopt -o filenames 2> /dev/null", "  while IFS= read -r name; do COMPREPLY+=(\"$name\"); done < <(",
-        "    { compgen -f ${1:+-X \"$1\"} -- \"$plain\"; compgen -d -- \"$plain\"; } | sort -u)", "}",
-        f"_{program}() {{",
-        '  local word="${COMP_WORDS[COMP_CWORD]}" before="${COMP_WORDS[COMP_CWORD-1]}" options=', "  COMPREPLY=()",
-        "  case \"$word:$before\" in", "    =:*) word= ;;", "    *:=) before=\"${COMP_WORDS[COMP_CWORD-2]}\" ;;", "  esac",
-        '  if [ "$COMP_CWORD" -eq 1 ]; then', f"    _{program}_words '{names} help {' '.join(top)}'", "    return", "  fi",
-        '  case "$before" in', *behind, "  esac", '  case "${COMP_WORDS[1]}" in',
-        f"    help) _{program}_words '{names}'; return ;;", *cases, "  esac",
-        '  case "$word" in', f"    -*) _{program}_words \"$options\" ;;", f"    *) _{program}_files '!*.[sS][hH][pP]' ;;", "  esac", "}",
-        f"complete -F _{program} {program}", ""])
+    return "\n".join(
+        [
+            f"# Made by scripts/help_pages from what {program} --help prints.",
+            f'_{program}_words() {{ COMPREPLY=($(compgen -W "$1" -- "$word")); }}',
+            f"_{program}_files() {{",
+            '  local name plain="${word//\\\\/}"',
+            '  plain="${plain#[\\"\\\']}"',
+            "  compopt -o filenames 2> /dev/null",
+            '  while IFS= read -r name; do COMPREPLY+=("$name"); done < <(',
+            '    { compgen -f ${1:+-X "$1"} -- "$plain"; compgen -d -- "$plain"; } | sort -u)',
+            "}",
+            f"_{program}() {{",
+            '  local word="${COMP_WORDS[COMP_CWORD]}" before="${COMP_WORDS[COMP_CWORD-1]}" options=',
+            "  COMPREPLY=()",
+            '  case "$word:$before" in',
+            "    =:*) word= ;;",
+            '    *:=) before="${COMP_WORDS[COMP_CWORD-2]}" ;;',
+            "  esac",
+            '  if [ "$COMP_CWORD" -eq 1 ]; then',
+            f"    _{program}_words '{names} help {' '.join(top)}'",
+            "    return",
+            "  fi",
+            '  case "$before" in',
+            *behind,
+            "  esac",
+            '  case "${COMP_WORDS[1]}" in',
+            f"    help) _{program}_words '{names}'; return ;;",
+            *cases,
+            "  esac",
+            '  case "$word" in',
+            f'    -*) _{program}_words "$options" ;;',
+            f"    *) _{program}_files '!*.[sS][hH][pP]' ;;",
+            "  esac",
+            "}",
+            f"complete -F _{program} {program}",
+            "",
+        ]
+    )
 
 
 def zsh_value(name: str, choices: List[str]) -> str:
@@ -75,11 +99,27 @@ def zsh_value(name: str, choices: List[str]) -> str:
 
 def zsh(program: str, commands: List[Command], top: List[str]) -> str:
     """The completion for zsh."""
-    lines = [f"#compdef {program}", f"# Made by scripts/help_pages from what {program} --help prints.", "local -a commands", "commands=("]
+    lines = [
+        f"#compdef {program}",
+        f"# Made by scripts/help_pages from what {program} --help prints.",
+        "local -a commands",
+        "commands=(",
+    ]
     lines += [f"  '{one.name}:{first_words(one.about)}'" for one in commands]
-    lines += ["  'help:Print help'", ")", "if (( CURRENT == 2 )); then", f"  _describe command commands -- && return", f"  compadd -- {' '.join(top)}",
-              "  return", "fi", "local command=$words[2]", "shift words", "(( CURRENT-- ))", "case $command in",
-              "  help) _describe command commands ;;"]
+    lines += [
+        "  'help:Print help'",
+        ")",
+        "if (( CURRENT == 2 )); then",
+        f"  _describe command commands -- && return",
+        f"  compadd -- {' '.join(top)}",
+        "  return",
+        "fi",
+        "local command=$words[2]",
+        "shift words",
+        "(( CURRENT-- ))",
+        "case $command in",
+        "  help) _describe command commands ;;",
+    ]
     for one in commands:
         lines.append(f"  {one.name})\n    _arguments \\")
         for option in one.options:
@@ -99,7 +139,11 @@ def fish(program: str, commands: List[Command], top: List[str]) -> str:
     lines = [f"# Made by scripts/help_pages from what {program} --help prints.", f"complete -c {program} -f"]
     for one in commands:
         lines.append(f"complete -c {program} -n __fish_use_subcommand -a {one.name} -d '{first_words(one.about)}'")
-    lines += [f"complete -c {program} -n __fish_use_subcommand -l {it.removeprefix('--')}" for it in top if it.startswith("--")]
+    lines += [
+        f"complete -c {program} -n __fish_use_subcommand -l {it.removeprefix('--')}"
+        for it in top
+        if it.startswith("--")
+    ]
     for one in commands:
         begin = f"complete -c {program} -n '__fish_seen_subcommand_from {one.name}'"
         if SHAPEFILES & set(one.places):

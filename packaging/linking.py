@@ -1,7 +1,7 @@
 """Links the program that the gate built to one file that needs no library of the system.
 
-It is made of the object file that `rt` leaves beside the program, the kit's two archives of C, and the C library of this
-machine as `cc` links it.
+It is made of the object file that `rt` leaves beside the program, the kit's two archives of C, and the C library of
+this machine as `cc` links it.
 """
 import re
 import subprocess
@@ -23,7 +23,9 @@ class Missing(Exception):
 def said(words: List[str]) -> Optional[str]:
     """What a command prints, without the line's end; none where it is not there or fails."""
     try:
-        ran = subprocess.run(words, stdout=subprocess.PIPE, stderr=subprocess.DEVNULL, stdin=subprocess.DEVNULL, text=True)
+        ran = subprocess.run(
+            words, stdout=subprocess.PIPE, stderr=subprocess.DEVNULL, stdin=subprocess.DEVNULL, text=True
+        )
     except OSError:
         return None
     return ran.stdout.strip() if ran.returncode == 0 else None
@@ -62,9 +64,19 @@ def link() -> None:
 
 def as_the_kit_links(to: Path) -> None:
     """Links the object file as `rt ci` does, so that it can be compared with the program that the gate tried."""
-    words = [str(kit() / "bin/rattle-link"), "--target", "x86_64-unknown-linux-gnu", "--toolchain", str(kit() / "toolchain")]
-    subprocess.run([*words, "-o", str(to), str(OBJECT), *map(str, archives())], check=True,
-                   stdin=subprocess.DEVNULL, capture_output=True)
+    words = [
+        str(kit() / "bin/rattle-link"),
+        "--target",
+        "x86_64-unknown-linux-gnu",
+        "--toolchain",
+        str(kit() / "toolchain"),
+    ]
+    subprocess.run(
+        [*words, "-o", str(to), str(OBJECT), *map(str, archives())],
+        check=True,
+        stdin=subprocess.DEVNULL,
+        capture_output=True,
+    )
 
 
 def is_of(program: bytes) -> bool:

@@ -1,4 +1,5 @@
-"""What is handed out: the `.tar.gz`, the wheel and the `.deb` around one static program, and the sources of the wheel, as bytes."""
+"""What is handed out: the `.tar.gz`, the wheel and the `.deb` around one static program, and the sources of the wheel,
+as bytes."""
 import base64
 import hashlib
 import re
@@ -26,27 +27,42 @@ def read_tree(folder: Path, to: str) -> Files:
 def plain(root: Path, program: bytes, proof: str, bill: bytes) -> Files:
     """What each of the packages has: by its role, the file's bytes."""
     folder = root / "packaging"
-    return {"program": (program, True), "man": ((folder / "parcel_tool.1").read_bytes(), False),
-            **{shell: ((folder / name).read_bytes(), False) for shell, name in COMPLETIONS.items()}, "proof": (proof.encode(), False),
-            "licence": ((folder / "LICENCE-STATE.txt").read_bytes(), False), "bill": (bill, False)}
+    return {
+        "program": (program, True),
+        "man": ((folder / "parcel_tool.1").read_bytes(), False),
+        **{shell: ((folder / name).read_bytes(), False) for shell, name in COMPLETIONS.items()},
+        "proof": (proof.encode(), False),
+        "licence": ((folder / "LICENCE-STATE.txt").read_bytes(), False),
+        "bill": (bill, False),
+    }
 
 
 def documents(root: Path, to: str) -> Files:
     """The documents, with the pages beside them that they lead to."""
-    pages = {f"{to}/{name}": ((root / name).read_bytes(), False) for name in ("README.md", "CHANGELOG.md", "CONTRIBUTING.md")}
+    pages = {
+        f"{to}/{name}": ((root / name).read_bytes(), False) for name in ("README.md", "CHANGELOG.md", "CONTRIBUTING.md")
+    }
     return {**pages, **read_tree(root / "docs", f"{to}/docs")}
 
 
 def tarball(root: Path, parts: Files, relink: Files, name: str, seconds: int) -> bytes:
     """The `.tar.gz`: all lies in one folder of its name."""
-    files = {"bin/parcel_tool": parts["program"], "man/man1/parcel_tool.1": parts["man"],
-             **{f"completion/{name}": parts[shell] for shell, name in COMPLETIONS.items()}, "PROOF.txt": parts["proof"],
-             "parcel_tool.spdx.json": parts["bill"], "LICENCE-STATE.txt": parts["licence"], **documents(root, "."),
-             **read_tree(root / "examples/town", "examples/town"), **{f"relink/{path}": it for path, it in relink.items()}}
+    files = {
+        "bin/parcel_tool": parts["program"],
+        "man/man1/parcel_tool.1": parts["man"],
+        **{f"completion/{name}": parts[shell] for shell, name in COMPLETIONS.items()},
+        "PROOF.txt": parts["proof"],
+        "parcel_tool.spdx.json": parts["bill"],
+        "LICENCE-STATE.txt": parts["licence"],
+        **documents(root, "."),
+        **read_tree(root / "examples/town", "examples/town"),
+        **{f"relink/{path}": it for path, it in relink.items()},
+    }
     return tar_gz({path.removeprefix("./"): it for path, it in files.items()}, seconds, f"{name}/")
 
 
-OVERRIDES = """# One file that needs no library of the system, so that a verdict does not depend on one: see PROOF.txt and relink in the .tar.gz.
+OVERRIDES = """# One file that needs no library of the system, so that a verdict does not depend on one: see
+# PROOF.txt and relink in the .tar.gz.
 parcel-tool: shared-library-lacks-prerequisites [usr/bin/parcel_tool]
 """
 """What lintian would say of the `.deb` and is meant so."""
@@ -55,33 +71,48 @@ parcel-tool: shared-library-lacks-prerequisites [usr/bin/parcel_tool]
 def debian_changelog(version: str, maintainer: str, seconds: int) -> bytes:
     """Debian's changelog of the package, which points to the changes of the product."""
     when = datetime.fromtimestamp(seconds, timezone.utc).strftime("%a, %d %b %Y %H:%M:%S +0000")
-    return f"parcel-tool ({version}) unstable; urgency=medium\n\n  * Release {version}: see NEWS.gz.\n\n -- {maintainer}  {when}\n".encode()
+    head = f"parcel-tool ({version}) unstable; urgency=medium"
+    return f"{head}\n\n  * Release {version}: see NEWS.gz.\n\n -- {maintainer}  {when}\n".encode()
 
 
 def deb(root: Path, parts: Files, version: str, maintainer: str, seconds: int) -> bytes:
-    """The `.deb`, which installs the program with its man page, completions, documents, example, proof, bill and licence state."""
+    """The `.deb`, which installs the program with its man page, completions, documents, example, proof, bill and
+    licence state."""
     share, doc = "./usr/share", "./usr/share/doc/parcel-tool"
-    files = {"./usr/bin/parcel_tool": parts["program"],
-             f"{share}/man/man1/parcel_tool.1.gz": (packed(parts["man"][0]), False),
-             f"{share}/bash-completion/completions/parcel_tool": parts["bash"],
-             f"{share}/zsh/vendor-completions/_parcel_tool": parts["zsh"],
-             f"{share}/fish/vendor_completions.d/parcel_tool.fish": parts["fish"],
-             f"{share}/lintian/overrides/parcel-tool": (OVERRIDES.encode(), False),
-             f"{doc}/copyright": parts["licence"], f"{doc}/PROOF.txt": parts["proof"], f"{doc}/parcel_tool.spdx.json": parts["bill"],
-             f"{doc}/changelog.gz": (packed(debian_changelog(version, maintainer, seconds)), False),
-             f"{doc}/NEWS.gz": (packed((root / "CHANGELOG.md").read_bytes()), False), **read_tree(root / "docs", f"{doc}/docs"),
-             **read_tree(root / "examples/town", f"{doc}/examples/town")}
+    files = {
+        "./usr/bin/parcel_tool": parts["program"],
+        f"{share}/man/man1/parcel_tool.1.gz": (packed(parts["man"][0]), False),
+        f"{share}/bash-completion/completions/parcel_tool": parts["bash"],
+        f"{share}/zsh/vendor-completions/_parcel_tool": parts["zsh"],
+        f"{share}/fish/vendor_completions.d/parcel_tool.fish": parts["fish"],
+        f"{share}/lintian/overrides/parcel-tool": (OVERRIDES.encode(), False),
+        f"{doc}/copyright": parts["licence"],
+        f"{doc}/PROOF.txt": parts["proof"],
+        f"{doc}/parcel_tool.spdx.json": parts["bill"],
+        f"{doc}/changelog.gz": (packed(debian_changelog(version, maintainer, seconds)), False),
+        f"{doc}/NEWS.gz": (packed((root / "CHANGELOG.md").read_bytes()), False),
+        **read_tree(root / "docs", f"{doc}/docs"),
+        **read_tree(root / "examples/town", f"{doc}/examples/town"),
+    }
     size = sum(len(data) + 1023 for data, _ in files.values()) // 1024
-    control = (f"Package: parcel-tool\nVersion: {version}\nArchitecture: amd64\nMaintainer: {maintainer}\n"
-               f"Installed-Size: {size}\nSection: science\nPriority: optional\n"
-               "Description: exact answers about parcel layers in shapefiles\n"
-               " Whether parcels tile their city, which parcels and zones overlap, who has a\n"
-               " point, and exact areas. The answers are those of a formally verified program.\n"
-               " It needs no library, and a processor of level x86-64-v2.\n")
+    control = (
+        f"Package: parcel-tool\nVersion: {version}\nArchitecture: amd64\nMaintainer: {maintainer}\n"
+        f"Installed-Size: {size}\nSection: science\nPriority: optional\n"
+        "Description: exact answers about parcel layers in shapefiles\n"
+        " Whether parcels tile their city, which parcels and zones overlap, who has a\n"
+        " point, and exact areas. The answers are those of a formally verified program.\n"
+        " It needs no library, and a processor of level x86-64-v2.\n"
+    )
     sums = "".join(f"{hashlib.md5(data).hexdigest()}  {path[2:]}\n" for path, (data, _) in sorted(files.items()))
     about: Files = {"./control": (control.encode(), False), "./md5sums": (sums.encode(), False)}
-    return ar([("debian-binary", b"2.0\n"), ("control.tar.gz", tar_gz(about, seconds)),
-               ("data.tar.gz", tar_gz(files, seconds))], seconds)
+    return ar(
+        [
+            ("debian-binary", b"2.0\n"),
+            ("control.tar.gz", tar_gz(about, seconds)),
+            ("data.tar.gz", tar_gz(files, seconds)),
+        ],
+        seconds,
+    )
 
 
 def sdist_name(project: Dict) -> str:
@@ -94,7 +125,10 @@ def sdist(root: Path, seconds: int) -> bytes:
     project = project_of(root)
     stem = sdist_name(project).removesuffix(".tar.gz")
     readme = (root / "python" / project["readme"]).read_text(encoding="utf-8")
-    files = {name: ((root / "python" / name).read_bytes(), False) for name in ("pyproject.toml", "README.md", "build_backend.py")}
+    files = {
+        name: ((root / "python" / name).read_bytes(), False)
+        for name in ("pyproject.toml", "README.md", "build_backend.py")
+    }
     files |= read_tree(root / "python/src", "src")
     files["PKG-INFO"] = (metadata(project, readme).encode(), False)
     files["LICENCE-STATE.txt"] = ((root / "packaging/LICENCE-STATE.txt").read_bytes(), False)
@@ -103,9 +137,14 @@ def sdist(root: Path, seconds: int) -> bytes:
 
 def metadata(project: Dict, readme: str) -> str:
     """A wheel's METADATA of what `pyproject.toml` says."""
-    lines = ["Metadata-Version: 2.1", f"Name: {project['name']}", f"Version: {project['version']}",
-             f"Summary: {project.get('description', '')}", f"Requires-Python: {project['requires-python']}",
-             *(f"Requires-Dist: {it}" for it in project.get("dependencies", []))]
+    lines = [
+        "Metadata-Version: 2.1",
+        f"Name: {project['name']}",
+        f"Version: {project['version']}",
+        f"Summary: {project.get('description', '')}",
+        f"Requires-Python: {project['requires-python']}",
+        *(f"Requires-Dist: {it}" for it in project.get("dependencies", [])),
+    ]
     for extra, wanted in project.get("optional-dependencies", {}).items():
         lines += [f"Provides-Extra: {extra}", *(f'Requires-Dist: {it}; extra == "{extra}"' for it in wanted)]
     return "\n".join([*lines, "Description-Content-Type: text/markdown", "", readme])
@@ -141,10 +180,15 @@ def wheel(root: Path, parts: Files, seconds: int) -> bytes:
     tags: List[str] = [f"Tag: py3-none-{it}\n" for it in PLATFORM.split(".")]
     about = "Wheel-Version: 1.0\nGenerator: scripts/release\nRoot-Is-Purelib: false\n" + "".join(tags)
     commands = "".join(f"{name} = {it}\n" for name, it in project.get("scripts", {}).items())
-    files = {**read_tree(root / "python/src" / package, package), f"{package}/bin/parcel_tool": parts["program"],
-             f"{info}/METADATA": (metadata(project, text).encode(), False), f"{info}/WHEEL": (about.encode(), False),
-             f"{info}/entry_points.txt": (f"[console_scripts]\n{commands}".encode(), False),
-             f"{info}/PROOF.txt": parts["proof"], f"{info}/LICENCE-STATE.txt": parts["licence"],
-             f"{info}/sboms/parcel_tool.spdx.json": parts["bill"]}
+    files = {
+        **read_tree(root / "python/src" / package, package),
+        f"{package}/bin/parcel_tool": parts["program"],
+        f"{info}/METADATA": (metadata(project, text).encode(), False),
+        f"{info}/WHEEL": (about.encode(), False),
+        f"{info}/entry_points.txt": (f"[console_scripts]\n{commands}".encode(), False),
+        f"{info}/PROOF.txt": parts["proof"],
+        f"{info}/LICENCE-STATE.txt": parts["licence"],
+        f"{info}/sboms/parcel_tool.spdx.json": parts["bill"],
+    }
     files[f"{info}/RECORD"] = (record(files, f"{info}/RECORD"), False)
     return zip_file(files, seconds)

@@ -1,17 +1,19 @@
 """Files for the runs, made by a recipe of words.
 
 The first word is a file of examples/ or says what is made:
-    polygon X,Y X,Y .. / ..  a main file of polygons with these points, the first not repeated; `null` is a null shape, and A..B,Y the points
-                             with this y and each x from A to B
+    polygon X,Y X,Y .. / ..  a main file of polygons with these points, the first not repeated; `null` is a null shape,
+                             and A..B,Y the points with this y and each x from A to B
     squares N                a main file of N squares with sides of 100
-    grid COLUMNS ROWS STEP   a main file of squares with sides of 100 side by side, row by row from the south, with a corner each STEP
+    grid COLUMNS ROWS STEP   a main file of squares with sides of 100 side by side, row by row from the south, with a
+                             corner each STEP
     nulls N                  a main file of N null shapes
     index PLACE,LENGTH ..    an index file with these records, in words of 16 bits
     text LINE / LINE ..      these lines, each with a line feed
-    journal OUTLINE / .. ; LINE / ..   the journal of a layer with these lines, `0 X Y ..` of the city and `ID X Y ..` of each parcel, and of
-                             these edits, all by clerk 1
-    moves N X,Y X,Y LINE ..  N lines of edits, each of which moves the border of the last two parcels, at first 1 and 2, to where it is, from
-                             the one point straight to the other; and behind them these lines, with ` / ` between them
+    journal OUTLINE / .. ; LINE / ..   the journal of a layer with these lines, `0 X Y ..` of the city and `ID X Y ..`
+                             of each parcel, and of these edits, all by clerk 1
+    moves N X,Y X,Y LINE ..  N lines of edits, each of which moves the border of the last two parcels, at first 1 and 2,
+                             to where it is, from the one point straight to the other; and behind them these lines, with
+                             ` / ` between them
     folder                   no file, but a folder
     pipe [MODE]              no file, but a named pipe, of mode 600 or this one
     link NAME                no file, but a link to this name

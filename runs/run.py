@@ -3,10 +3,10 @@
 
     runs/run.py [--all-workers] [PROGRAM ..]
 
-With no word it takes the programs that `rt ci` leaves, one by each compiler, and the static one (scripts/static_program) where
-it is there. A program whose name ends in `.static` runs with no environment and no /proc. Each row whose commands can share
-their work among threads runs once more with `--workers 3`, and with `--all-workers` with 1 and 64, too: what comes out must be the
-same. A table has rows such as
+With no word it takes the programs that `rt ci` leaves, one by each compiler, and the static one
+(scripts/static_program) where it is there. A program whose name ends in `.static` runs with no environment and no
+/proc. Each row whose commands can share their work among threads runs once more with `--workers 3`, and with
+`--all-workers` with 1 and 64, too: what comes out must be the same. A table has rows such as
 
     == A layer without an index
     + square.shp: square.shp
@@ -15,8 +15,8 @@ same. A table has rows such as
 
 + NAME: RECIPE        a file in the row's empty folder; layers.py has the recipes
 +* FIRST LAST NAME: RECIPE   a file for each number, which stands for {} in its name
-$ WORDS               the command line, in which \\xFF is a byte; further ones run behind it in the same folder, and what they write comes
-                      one after the other
+$ WORDS               the command line, in which \\xFF is a byte; further ones run behind it in the same folder, and
+                      what they write comes one after the other
 < TEXT                a line of standard input, of which there is none else
 > TEXT, 2> TEXT       a line of standard output, of standard error; all lines that must come
 >* FIRST LAST TEXT    a line TEXT for each number, which stands for {}
@@ -24,8 +24,9 @@ $ WORDS               the command line, in which \\xFF is a byte; further ones r
 = NAME: RECIPE        a file that has to stand in the folder then, with these bytes
 =# NAME: LINE / ..    a journal that has to stand there then, with these lines, but for those that begin with `#`
 ~ NAME ..             all that stands in the folder then
-! HOW                 standard output is `closed` or `full`, standard error is `silent` (closed), there are `N MiB` of memory, a file
-                      can have `N bytes` at most, or there are `no threads`: the stack of each would take more memory than there is
+! HOW                 standard output is `closed` or `full`, standard error is `silent` (closed), there are `N MiB` of
+                      memory, a file can have `N bytes` at most, or there are `no threads`: the stack of each would take
+                      more memory than there is
 # ..                  a comment
 """
 
@@ -105,8 +106,9 @@ def rows_of(path):
 
 
 def with_workers(row, count):
-    """The row with so many workers in each command line that takes a number. Nothing where there is no such line or one has a number,
-    where the row's is no command line, or where it limits memory, since each thread takes some for its stack."""
+    """The row with so many workers in each command line that takes a number. Nothing where there is no such line or one
+    has a number, where the row's is no command line, or where it limits memory, since each thread takes some for its
+    stack."""
     shares = [bool(words) and words[0] in SHARED for words in row.lines]
     named = any(word.startswith(b"--workers") for words in row.lines for word in words)
     limited = any(it.endswith(" MiB") or it == "no threads" for it in row.how)
@@ -149,8 +151,11 @@ def hide_proc():
     """Puts an empty folder over /proc, for this process and those it starts. OSError where it may not."""
     c_library = ctypes.CDLL(None, use_errno=True)
     alone = NEW_MOUNTS | (0 if os.geteuid() == 0 else NEW_USERS)
-    if (c_library.unshare(alone) or c_library.mount(b"none", b"/", None, PRIVATE_BELOW, None)
-            or c_library.mount(b"none", b"/proc", b"tmpfs", 0, None)):
+    if (
+        c_library.unshare(alone)
+        or c_library.mount(b"none", b"/", None, PRIVATE_BELOW, None)
+        or c_library.mount(b"none", b"/proc", b"tmpfs", 0, None)
+    ):
         raise OSError(ctypes.get_errno(), "/proc cannot be hidden")
 
 
@@ -193,9 +198,16 @@ def run_line(program, row, room, words):
     """What a command line writes, on both streams, and its status; nothing where it does not end."""
     full = open("/dev/full", "wb") if "full" in row.how else None
     try:
-        ran = subprocess.run([program.path.encode(), *words], cwd=room, input=text_of(row.stdin), timeout=SECONDS,
-                             env={} if program.alone else None, stdout=full or subprocess.PIPE, stderr=subprocess.PIPE,
-                             preexec_fn=lambda: program.begin(row.how))
+        ran = subprocess.run(
+            [program.path.encode(), *words],
+            cwd=room,
+            input=text_of(row.stdin),
+            timeout=SECONDS,
+            env={} if program.alone else None,
+            stdout=full or subprocess.PIPE,
+            stderr=subprocess.PIPE,
+            preexec_fn=lambda: program.begin(row.how),
+        )
     except subprocess.TimeoutExpired:
         return None
     finally:

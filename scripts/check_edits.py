@@ -1,8 +1,8 @@
 #!/usr/bin/env python3
-"""Fails where a mutant (crates/NAME/must-fail/*.edit, crates/NAME/more-wrong-bodies/*.edit) cannot be applied: each `old:`
-line has to stand in its file exactly once, and each `new:` line has to change it. The gate tells of such an edit and passes
-all the same, and does not look at the second folder. It fails too where both folders have a mutant of one name, and where
-the README of a crate marks one by `†` that is not in the second folder, or leaves the mark out.
+"""Fails where a mutant (crates/NAME/must-fail/*.edit, crates/NAME/more-wrong-bodies/*.edit) cannot be applied: each
+`old:` line has to stand in its file exactly once, and each `new:` line has to change it. The gate tells of such an edit
+and passes all the same, and does not look at the second folder. It fails too where both folders have a mutant of one
+name, and where the README of a crate marks one by `†` that is not in the second folder, or leaves the mark out.
 
     scripts/check_edits.py [--mark]     with --mark it first puts the marks right
 """
@@ -45,17 +45,19 @@ def faults_of(edit):
 def marked(crate, text, tiers):
     """A crate's page, with the mark behind each mutant of the second tier in its table of promises and no other.
 
-    `tiers` has, for the names of a crate and a mutant, the folder. A mutant is this crate's, or else of the one crate that has a
-    mutant of this name.
+    `tiers` has, for the names of a crate and a mutant, the folder. A mutant is this crate's, or else of the one crate
+    that has a mutant of this name.
     """
     lines = []
     elsewhere = {name: tier for (_, name), tier in tiers.items()}
     for line in text.split("\n"):
         cells = line.split("|")
         if len(cells) > 4:
+
             def word(found):
                 tier = tiers.get((crate, found[1]), elsewhere.get(found[1]))
                 return f"`{found[1]}`{MARK if tier == TIERS[1] else ''}"
+
             cells[3:] = [re.sub(rf"`(\w+)`{MARK}?", word, cell) for cell in cells[3:]]
         lines.append("|".join(cells))
     return "\n".join(lines)
@@ -70,8 +72,12 @@ def mark_faults(mutants, mark):
         if mark and right != text:
             page.write_text(right)
         both = enumerate(zip(text.split("\n"), right.split("\n")), 1)
-        faults += [f"{page.relative_to(ROOT)}:{number}: marks of the second tier: scripts/check_edits.py --mark puts them right"
-                   for number, (is_so, wanted) in both if is_so != wanted and not mark]
+        faults += [
+            f"{page.relative_to(ROOT)}:{number}: marks of the second tier: scripts/check_edits.py --mark puts them "
+            "right"
+            for number, (is_so, wanted) in both
+            if is_so != wanted and not mark
+        ]
     return faults
 
 
@@ -79,8 +85,11 @@ def main():
     first, second = (sorted(ROOT.glob(f"crates/*/{tier}/*.edit")) for tier in TIERS)
     faults = [f"{edit.relative_to(ROOT)}: {fault}" for edit in first + second for fault in faults_of(edit)]
     names = {(edit.parent.parent, edit.name) for edit in first}
-    faults += [f"{edit.relative_to(ROOT)}: {TIERS[0]} has one of this name" for edit in second
-               if (edit.parent.parent, edit.name) in names]
+    faults += [
+        f"{edit.relative_to(ROOT)}: {TIERS[0]} has one of this name"
+        for edit in second
+        if (edit.parent.parent, edit.name) in names
+    ]
     faults += mark_faults(first + second, sys.argv[1:] == ["--mark"])
     counts = f"{len(first)} in {TIERS[0]}, {len(second)} in {TIERS[1]}"
     print("\n".join(faults) if faults else f"mutants: {counts}, each can be applied")

@@ -3,8 +3,8 @@
 definitions: those that a reader has to believe, and the code's own.
 
 A contract is public where its function is `pub` and can be reached from the crate's `lib.rt`: it stands there or in a
-`pub mod` of it, is named in a `pub use` there, or is a method of a type that is. The proof that a type keeps a law of its
-trait is no contract. A definition beside the own folder may cite nothing of it either.
+`pub mod` of it, is named in a `pub use` there, or is a method of a type that is. The proof that a type keeps a law of
+its trait is no contract. A definition beside the own folder may cite nothing of it either.
 """
 import re
 import sys

@@ -81,8 +81,8 @@ def change_of(mutant: Path, crate: Path) -> Optional[Change]:
 
 
 def calls_of(crate: Path) -> Dict[str, Set[str]]:
-    """For each name of a crate's functions the names of those that it calls, through others, too; at least all of these:
-    a name is taken for a call wherever it stands."""
+    """For each name of a crate's functions the names of those that it calls, through others, too; at least all of
+    these: a name is taken for a call wherever it stands."""
     words: Dict[str, Set[str]] = {}
     for path in sorted((crate / "src").rglob("*.rt")):
         text = path.read_text()
@@ -158,19 +158,22 @@ def refused_of(changes: Sequence[Change], printed: str) -> Set[str]:
 
 def self_test() -> None:
     """Tries the rules of groups on a made-up file and a made-up prover's words; stops at the first that is wrong."""
-    text = "impl It {\n    pub fn one(\n        self,\n    ) -> u64\n        ensures { result ≡ 1 }\n    {\n        1\n    }\n"
+    text = "impl It {\n    pub fn one(\n        self,\n    ) -> u64\n        ensures { result ≡ 1 }\n    {\n"
+    text += "        1\n    }\n"
     text += "}\n\nfn two() {\n    2\n}\n\nfn three(x: u64) -> u64;\n"
     one, two = Function("src/it.rt", "one", 2, 6, 8), Function("src/it.rt", "two", 11, 11, 13)
     assert functions_of("src/it.rt", text) == [one, two], functions_of("src/it.rt", text)
     functions_and_numbers = (("a", one, "1"), ("b", two, "2"), ("c", two, "2"))
     changes = [Change(name, (function,), ((number, "3"),)) for name, function, number in functions_and_numbers]
     assert [[it.name for it in group] for group in groups_of(changes, {})] == [["a", "b"], ["c"]]
-    assert [[it.name for it in group] for group in groups_of(changes, {"two": {"one"}})] == [["a"], ["b"], ["c"]]
+    called = {"two": {"one"}}
+    assert [[it.name for it in group] for group in groups_of(changes, called)] == [["a"], ["b"], ["c"]]
     wrong = "note: src/it.rt:2:5: it is not proved that what it ensures holds\nfn crate::it::It::one: not proved\n"
     assert refused_of(changes[:2], wrong) == {"a"}
     searched = "no proof: expected answers in ./proofs/it/It/one/Answers.antt; `search` did not prove `returns`"
     assert refused_of(changes[:2], wrong.replace("not proved\n", f"{searched}\n")) == {"a"}
-    assert refused_of(changes[:2], wrong.replace("not proved\n", "no proof: it calls `x`, which is not proved\n")) == set()
+    calls_one = "no proof: it calls `x`, which is not proved\n"
+    assert refused_of(changes[:2], wrong.replace("not proved\n", calls_one)) == set()
     assert refused_of(changes[:2], wrong.replace(":2:", ":12:")) == set()
     assert refused_of(changes[:2], wrong.replace("not proved\n", "proved\n")) == set()
     away = "./proofs/it/It/one/Answers.antt:1:2: error: `x`: has no field `y`\nfn crate::it::It::one: not proved\n"

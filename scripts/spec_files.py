@@ -67,9 +67,16 @@ def source_of(path: Path) -> str:
 
 def files_to_believe() -> List[Path]:
     """The files of definitions that public contracts cite, crate by crate in the order of crates.txt."""
-    crates = [line.partition(":")[0] for line in (ROOT / "crates.txt").read_text().splitlines() if not line.startswith("#")]
-    return [path for crate in crates for path in sorted((ROOT / "crates" / crate / "specs").rglob("*.antt"))
-            if path.name != "Lib.antt" and path.relative_to(ROOT / "crates" / crate / "specs").parts[0] not in ("own", "own.antt")]
+    crates = [
+        line.partition(":")[0] for line in (ROOT / "crates.txt").read_text().splitlines() if not line.startswith("#")
+    ]
+    return [
+        path
+        for crate in crates
+        for path in sorted((ROOT / "crates" / crate / "specs").rglob("*.antt"))
+        if path.name != "Lib.antt"
+        and path.relative_to(ROOT / "crates" / crate / "specs").parts[0] not in ("own", "own.antt")
+    ]
 
 
 def write_or_compare(pages: Dict[Path, str], by: str) -> int:

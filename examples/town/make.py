@@ -1,5 +1,6 @@
 #!/usr/bin/env python3
-"""make.py - writes the layers of the example town beside itself (stdlib only): whole centimetres, clockwise rings, each with its index.
+"""make.py - writes the layers of the example town beside itself (stdlib only): whole centimetres, clockwise rings, each
+with its index.
 
 README.md beside it draws the town.
 """

@@ -3,15 +3,19 @@ from __future__ import annotations
 
 import hashlib
 import os
+import shutil
 import stat
+import subprocess
 import sys
 from pathlib import Path
 from typing import Any, List, Optional, Sequence
 
 import numpy as np
+import pytest
 
 from gandovel import Session, read_journal
 from gandovel.layer_files import write_rings
+from gandovel.tool import find_tool
 from session_register import Register, Ring, from_least
 
 SECONDS = 120
@@ -60,12 +64,12 @@ class Town:
     def text_of(self, *edits: str, clerk: int = 1) -> bytes:
         """The journal of these edits, as a session writes it, all by one clerk."""
         digest = self.layer().encode()
-        text = b"# gandovel journal 1 mm " + digest + b"\n"
+        parts = [b"# gandovel journal 1 mm " + digest + b"\n"]
         for number, edit in enumerate(edits, 1):
             stamp = f"# {number} {clerk} 2026-01-01T00:00:00Z ".encode()
             digest = hashlib.sha256(digest + stamp + edit.encode() + b"\n").hexdigest().encode()
-            text += stamp + digest + b"\n" + edit.encode() + b"\n"
-        return text
+            parts.append(stamp + digest + b"\n" + edit.encode() + b"\n")
+        return b"".join(parts)
 
 
 class Raw:
@@ -99,3 +103,22 @@ def program(path: Path, text: str, interpreter: Optional[str] = None) -> str:
     path.write_text(f"#!{interpreter or sys.executable}\n{text}")
     path.chmod(path.stat().st_mode | stat.S_IXUSR)
     return str(path)
+
+
+def preloaded(folder: Path, source: str) -> Path:
+    """The library of a source beside this file, compiled to a folder: it has calls of a program go otherwise. It has no
+    say in a program that is linked statically."""
+    if shutil.which("cc") is None:
+        pytest.skip("no C compiler is here")
+    if subprocess.run(["ldd", find_tool()], capture_output=True).returncode:
+        pytest.skip("the program is linked statically")
+    library = (folder / source).with_suffix(".so")
+    subprocess.run(["cc", "-shared", "-fPIC", "-o", library, Path(__file__).parent / source, "-ldl"], check=True)
+    return library
+
+
+def preload(town: Town, monkeypatch: pytest.MonkeyPatch, library: Path, **variables: Any) -> None:
+    """Has each session begin with this library, and with these variables of its environment."""
+    words = " ".join(f'{name}="{value}"' for name, value in {"LD_PRELOAD": library, **variables}.items())
+    text = f'export {words}\nexec "{find_tool()}" "$@"\n'
+    monkeypatch.setenv("GANDOVEL_TOOL", program(town.journal.parent / "preloaded", text, "/bin/sh"))

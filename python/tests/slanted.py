@@ -31,7 +31,8 @@ class Planted:
 def slanted(
     seed: int, bands: int, cells: int, decimals: Optional[int], faults: Dict[int, float]
 ) -> Tuple[gpd.GeoDataFrame, List[Planted]]:
-    """A register of bands times cells parcels; `faults` maps a parcel's position to how far its right side is moved (m).
+    """A register of bands times cells parcels; `faults` maps a parcel's position to how far its right side is moved
+    (m).
 
     The last parcel of a band has none. A move to the left is a gap, one to the right an overlap. Without `decimals` the
     coordinates are floats as they were computed.

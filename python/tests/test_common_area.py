@@ -1,5 +1,5 @@
-"""The area common to two rings: the definition in `crates/common_areas/specs`, written out in fractions, gives what clipping
-gives. No program is run."""
+"""The area common to two rings: the definition in `crates/common_areas/specs`, written out in fractions, gives what
+clipping gives. No program is run."""
 from __future__ import annotations
 
 import math

@@ -314,7 +314,8 @@ def test_districts_that_do_not_have_every_ring_once(monkeypatch, change):
 
 @pytest.mark.parametrize("change", [are_exchanged, is_moved])
 def test_outlines_that_are_none_of_their_rings(monkeypatch, change):
-    """All parcels tile; in the wrong outlines no run says so, and what the runs say adds up to nothing: open, not tiles."""
+    """All parcels tile; in the wrong outlines no run says so, and what the runs say adds up to nothing: open, not
+    tiles."""
     broken_district(monkeypatch, change)
     with cut_by(Cutting(10)), pytest.raises(Open, match="T11 .*parcels cross districts") as caught:
         check_island(island_of())
@@ -335,7 +336,8 @@ def test_a_run_in_another_outline_is_found(monkeypatch):
 
 
 def test_outlines_are_the_programs(monkeypatch):
-    """Each district is judged in the outline that `part --all` wrote, where the outlines tile; else in that of its record."""
+    """Each district is judged in the outline that `part --all` wrote, where the outlines tile; else in that of its
+    record."""
     asked: List[List[str]] = []
     ask = verdict.ask
     monkeypatch.setattr(verdict, "ask", lambda words: (asked.append(words), ask(words))[1])

@@ -153,7 +153,8 @@ def from_least(ring):
     )
 )
 def test_common_parts_are_those_of_shapely(corners):
-    """By GEOS' own pointers as by Shapely's shapes, lines and points and nothing in common too; and so the box around."""
+    """By GEOS' own pointers as by Shapely's shapes, lines and points and nothing in common too; and so the box
+    around."""
     shapes = [MultiPoint(some).convex_hull for some in corners]
     blobs = [shape.wkb for shape in shapes]
     pairs = [(i, j) for i in range(len(shapes)) for j in range(len(shapes))]

@@ -1,4 +1,5 @@
-"""Rounded registers: exactly the planted faults are told, whatever the decimals; what was made to touch is told, too."""
+"""Rounded registers: exactly the planted faults are told, whatever the decimals; what was made to touch is told,
+too."""
 from __future__ import annotations
 
 import os
@@ -157,7 +158,8 @@ def test_mend_leaves_what_is_wider():
 
 
 def test_what_mending_leaves_open_is_told():
-    """A slit of 3 mm that is open to the outside is no sliver that is closed: the verdict has it, however wide --width."""
+    """A slit of 3 mm that is open to the outside is no sliver that is closed: the verdict has it, however wide
+    --width."""
     strips = [box(EAST, NORTH, EAST + 10, NORTH + 10), box(EAST + 10.003, NORTH, EAST + 20, NORTH + 10)]
     base = box(EAST, NORTH - 10, EAST + 20, NORTH)
     frame = gpd.GeoDataFrame({"parcel_no": ["left", "right", "base"]}, geometry=[*strips, base], crs=25832)

@@ -299,7 +299,8 @@ def opened(journal, told):
 
 
 def test_the_follower_is_not_waited_for_edit_by_edit(tmp_path):
-    """All edits whose ids the session told go to it at once; behind one that was not told nothing is sent before its answer."""
+    """All edits whose ids the session told go to it at once; behind one that was not told nothing is sent before its
+    answer."""
 
     async def followed():
         register, follower = opened(tmp_path, (1, 2))

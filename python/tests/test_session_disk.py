@@ -12,30 +12,21 @@ import pytest
 
 import gandovel as gv
 from gandovel.journals import journal_of
-from gandovel.tool import find_tool
-from session_town import FULL, SECONDS, Town, program
+from session_town import FULL, SECONDS, Town, preload, preloaded
 
 pytestmark = pytest.mark.usefixtures("in_time")
-HERE = Path(__file__).parent
 FIRST = ["merge 1 2", "merge 65 3", "merge 66 4", "merge 67 5", "merge 68 6", "merge 69 7"]
 
 
 @pytest.fixture(scope="module")
 def failing(tmp_path_factory: pytest.TempPathFactory) -> Path:
-    """The library that has calls on the journal fail. It has no say in a program that is linked statically."""
-    if shutil.which("cc") is None:
-        pytest.skip("no C compiler is here")
-    if subprocess.run(["ldd", find_tool()], capture_output=True).returncode:
-        pytest.skip("the program is linked statically")
-    path = tmp_path_factory.mktemp("preload") / "failing_disk.so"
-    subprocess.run(["cc", "-shared", "-fPIC", "-o", path, HERE / "failing_disk.c", "-ldl"], check=True)
-    return path
+    """The library that has calls on the journal fail."""
+    return preloaded(tmp_path_factory.mktemp("preload"), "failing_disk.c")
 
 
-def preload(town: Town, monkeypatch: pytest.MonkeyPatch, library: Path, kind: str, at: int) -> None:
+def fails(town: Town, monkeypatch: pytest.MonkeyPatch, library: Path, kind: str, at: int) -> None:
     """Has each session begin on a disk that fails so, at this call on the journal."""
-    text = f'export LD_PRELOAD="{library}" FAILS="{kind}" AT={at} JOURNAL="{town.journal}"\nexec "{find_tool()}" "$@"\n'
-    monkeypatch.setenv("GANDOVEL_TOOL", program(town.journal.parent / "preloaded", text, "/bin/sh"))
+    preload(town, monkeypatch, library, FAILS=kind, AT=at, JOURNAL=town.journal)
 
 
 def accepted_until_broken(desk: gv.Desk) -> List[str]:
@@ -70,7 +61,7 @@ def shows(session: gv.Session, desk: gv.Desk, accepted: List[str]) -> None:
 def test_an_edit_that_the_disk_refuses_is_not_shown(town, monkeypatch, failing, kind, at):
     """Number 2: an error of the device at the write of an edit, in its middle, and at its synchronisation."""
     # A start writes once, and synchronises twice.
-    preload(town, monkeypatch, failing, kind, at + (kind == "synchronise"))
+    fails(town, monkeypatch, failing, kind, at + (kind == "synchronise"))
     with town.session("anna", "bert", zones=town.city) as session:
         with session.desk("anna", SECONDS) as desk, session.desk("bert", SECONDS) as other:
             accepted = accepted_until_broken(desk)
@@ -92,7 +83,7 @@ def test_an_edit_that_the_disk_refuses_is_not_shown(town, monkeypatch, failing, 
 )
 def test_a_journal_that_can_not_be_begun(town, monkeypatch, failing, kind, at):
     """A start that fails leaves a file with which the next one begins."""
-    preload(town, monkeypatch, failing, kind, at)
+    fails(town, monkeypatch, failing, kind, at)
     with pytest.raises(gv.JournalRefused, match="^journal: S1"):
         town.session()
     monkeypatch.undo()
@@ -103,7 +94,7 @@ def test_a_journal_that_can_not_be_begun(town, monkeypatch, failing, kind, at):
 
 def test_writes_that_take_half(town, monkeypatch, failing):
     """A short write is gone on with: no edit is refused, and none is torn."""
-    preload(town, monkeypatch, failing, "short writes", 1)
+    fails(town, monkeypatch, failing, "short writes", 1)
     with town.session("anna") as session, session.desk("anna", SECONDS) as desk:
         assert accepted_until_broken(desk) == FIRST
     assert town.lines() == FIRST

@@ -1,4 +1,5 @@
-"""Ends of sessions: however clients and operators behave, and whoever vanishes, the program ends, and nothing is lost."""
+"""Ends of sessions: however clients and operators behave, and whoever vanishes, the program ends, and nothing is
+lost."""
 from __future__ import annotations
 
 import contextlib

@@ -1,4 +1,5 @@
-"""The pipes of desks: clients that come as the last one goes, lines of every length and of every byte, and clients that are killed."""
+"""The pipes of desks: clients that come as the last one goes, lines of every length and of every byte, and clients that
+are killed."""
 from __future__ import annotations
 
 import os
@@ -40,7 +41,8 @@ def desk(tmp_path: Path) -> Path:
 
 
 def test_a_pipe_that_nobody_reads_for_a_moment(desk):
-    """The desk closes the lines of the client before, opens them anew, and answers what the next client said meanwhile."""
+    """The desk closes the lines of the client before, opens them anew, and answers what the next client said
+    meanwhile."""
     served = threading.Thread(target=closed_once, args=(desk,), daemon=True)
     served.start()
     with gv.Desk.at(desk, SECONDS) as client:
@@ -112,7 +114,8 @@ def lengths() -> Iterator[int]:
 
 
 def long_line(parcel: int, length: int, end: bytes) -> Tuple[bytes, str]:
-    """A split of a parcel from (0, 0) to (10000, 10000) in a line of so many bytes; and its words as a journal has them."""
+    """A split of a parcel from (0, 0) to (10000, 10000) in a line of so many bytes; and its words as a journal has
+    them."""
     corners = [(0, 0), *((x, x + x % 2) for x in range(1_000, 1_000 + length // 30)), (10_000, 10_000)]
     words = [str(number) for corner in corners for number in corner]
     edit = f"split {parcel} {' '.join(words)}"
@@ -160,7 +163,8 @@ def parted(raw: Raw, text: bytes, number: int) -> List[bytes]:
 
 
 def test_lines_of_every_byte(town):
-    """A line is what stands before its line feed, whatever bytes these are; one carriage return before it is its end's."""
+    """A line is what stands before its line feed, whatever bytes these are; one carriage return before it is its
+    end's."""
     every = bytes(byte for byte in range(256) if byte != 10)
     draw = random.Random(7)
     with town.session("anna") as session, Raw(session.path("anna")) as raw:

@@ -180,7 +180,8 @@ def test_the_verdict_says_whence_the_city_is():
 
 
 def test_curves_and_measures(tmp_path):
-    arc = 'id,WKT\n1,"CURVEPOLYGON(CIRCULARSTRING(561000 5934000,561010 5934010,561020 5934000,561010 5933990,561000 5934000))"\n'
+    corners = "561000 5934000,561010 5934010,561020 5934000,561010 5933990,561000 5934000"
+    arc = f'id,WKT\n1,"CURVEPOLYGON(CIRCULARSTRING({corners}))"\n'
     (tmp_path / "arc.csv").write_text(arc)
     (tmp_path / "m.csv").write_text(
         'id,WKT\n1,"POLYGON M((561000 5934000 1,561010 5934000 1,561010 5934010 1,561000 5934000 1))"\n'

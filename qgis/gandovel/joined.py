@@ -99,7 +99,8 @@ class Joined:
         return values, parcel, zone
 
     def _zone_at(self, shape: QgsGeometry) -> Optional[QgsFeature]:
-        """The zone at a point inside a shape; where that lies in a gap of the zones, the one that has most of the shape."""
+        """The zone at a point inside a shape; where that lies in a gap of the zones, the one that has most of the
+        shape."""
         point = shape.pointOnSurface()
         for feature in self.index.intersects(point.boundingBox()):
             if self.zones[feature].geometry().intersects(point):

@@ -72,8 +72,8 @@ def write_layer(
 
     `number` is the field of the features' own numbers, "" for their rows, None for none. Without `attributes` it is the
     only column.
-    `unit` (mm, cm, m) is that of a source without a projection. Raises `LayerFault`, also where there is no feature, and
-    `Cancelled`.
+    `unit` (mm, cm, m) is that of a source without a projection. Raises `LayerFault`, also where there is no feature,
+    and `Cancelled`.
     """
     path = str(Path(folder) / f"{name}.gpkg")
     number = _field_of(source.fields(), number, name)

@@ -1,7 +1,8 @@
 """What the window's test does inside QGIS: run by `qgis --code window.py`, told by GANDOVEL_WINDOW what to use.
 
-The plugin is installed from its zip. A clerk opens a street, edits it, checks it unsaved, goes to the largest fault, inserts the missing corner, checks
-again, takes it back, spoils a plot, and is told which. What was seen is written as JSON; pictures of the window beside it.
+The plugin is installed from its zip. A clerk opens a street, edits it, checks it unsaved, goes to the largest fault,
+inserts the missing corner, checks again, takes it back, spoils a plot, and is told which. What was seen is written as
+JSON; pictures of the window beside it.
 """
 from __future__ import annotations
 

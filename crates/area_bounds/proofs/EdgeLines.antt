@@ -66,8 +66,10 @@ highest_of a b p q r s h k =
 pub none_above : (b : Bool) (lo hi : Corner) (f : Edge) → lo.y <ℤ hi.y → f.from.y ≤ℤ lo.y → f.to.y ≤ℤ lo.y
     → highest (turned b lo hi) f ≤ℤ lowest (turned b lo hi) f
 none_above b lo hi f h p q =
-    let l : lowest (turned b lo hi) f ≡ int_max lo.y (int_min f.from.y f.to.y) = ap (λ x. int_max x (int_min f.from.y f.to.y)) (min_of_edge b lo hi h) in
-    let m : highest (turned b lo hi) f ≡ int_min hi.y (int_max f.from.y f.to.y) = ap (λ x. int_min x (int_max f.from.y f.to.y)) (max_of_edge b lo hi h) in
+    let l : lowest (turned b lo hi) f ≡ int_max lo.y (int_min f.from.y f.to.y) =
+    ap (λ x. int_max x (int_min f.from.y f.to.y)) (min_of_edge b lo hi h) in
+    let m : highest (turned b lo hi) f ≡ int_min hi.y (int_max f.from.y f.to.y) =
+    ap (λ x. int_min x (int_max f.from.y f.to.y)) (max_of_edge b lo hi h) in
     rw (l, m) (ends lo.y hi.y f.from.y f.to.y p q)
   where
     ends : (l m y z : ℤ) → y ≤ℤ l → z ≤ℤ l → int_min m (int_max y z) ≤ℤ int_max l (int_min y z)
@@ -77,8 +79,10 @@ none_above b lo hi f h p q =
 pub none_below : (b : Bool) (lo hi : Corner) (f : Edge) → lo.y <ℤ hi.y → hi.y ≤ℤ f.from.y → hi.y ≤ℤ f.to.y
     → highest (turned b lo hi) f ≤ℤ lowest (turned b lo hi) f
 none_below b lo hi f h p q =
-    let l : lowest (turned b lo hi) f ≡ int_max lo.y (int_min f.from.y f.to.y) = ap (λ x. int_max x (int_min f.from.y f.to.y)) (min_of_edge b lo hi h) in
-    let m : highest (turned b lo hi) f ≡ int_min hi.y (int_max f.from.y f.to.y) = ap (λ x. int_min x (int_max f.from.y f.to.y)) (max_of_edge b lo hi h) in
+    let l : lowest (turned b lo hi) f ≡ int_max lo.y (int_min f.from.y f.to.y) =
+    ap (λ x. int_max x (int_min f.from.y f.to.y)) (min_of_edge b lo hi h) in
+    let m : highest (turned b lo hi) f ≡ int_min hi.y (int_max f.from.y f.to.y) =
+    ap (λ x. int_min x (int_max f.from.y f.to.y)) (max_of_edge b lo hi h) in
     rw (l, m) (ends lo.y hi.y f.from.y f.to.y p q)
   where
     ends : (l m y z : ℤ) → m ≤ℤ y → m ≤ℤ z → int_min m (int_max y z) ≤ℤ int_max l (int_min y z)

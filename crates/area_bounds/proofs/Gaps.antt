@@ -1,5 +1,6 @@
 -- The area between two lines, by where they are at its bottom and its top.
-use Rattle.std.proofs.Common.{◌≡◌, ◌≢◌, ℕ, zero, suc, ◌+◌, ◌-◌, ◌*◌, ◌<◌, ◌≤◌, ◌⊎◌, inl, inr, refl, subst, ◌∙◌, sym, ap, arith, Bool, true, false, if◌then◌else◌}
+use Rattle.std.proofs.Common.{◌≡◌, ◌≢◌, ℕ, zero, suc, ◌+◌, ◌-◌, ◌*◌, ◌<◌, ◌≤◌, ◌⊎◌, inl, inr, refl, subst, ◌∙◌, sym, ap, arith, Bool}
+use Rattle.std.proofs.Common.{true, false, if◌then◌else◌}
 use Rattle.std.proofs.lemmas.Int.{ints, int_max_is, int_min_is}
 use Rattle.std.proofs.lemmas.Bool.{cases_lt}
 use Rattle.std.proofs.lemmas.Nat.{mul-le}
@@ -173,7 +174,8 @@ pub area_counted : (e f : Edge) (q H C : ℕ) (lost : ℕ) (low high : ℤ) → 
 area_counted e f q H C lost low high l m h hh hc counted =
     let P : Bool → Type 0 = λ t. IsCounted (pos q) lost (between_levels t e f) in
     let Q : ℤ → Type 0 = λ y. IsCounted (pos q) lost (area_of_gaps (high -ℤ y) (rise e *ℤ rise f) (gap e f y) (gap e f high)) in
-    let R : ℤ → Type 0 = λ y. IsCounted (pos q) lost (area_of_gaps (y -ℤ lowest e f) (rise e *ℤ rise f) (gap e f (lowest e f)) (gap e f y)) in
+    let R : ℤ → Type 0 =
+    λ y. IsCounted (pos q) lost (area_of_gaps (y -ℤ lowest e f) (rise e *ℤ rise f) (gap e f (lowest e f)) (gap e f y)) in
     let S : ℤ → Type 0 = λ y. IsCounted (pos q) lost (area_of_gaps y (pos C) (gap e f low) (gap e f high)) in
     let T : ℤ → Type 0 = λ y. IsCounted (pos q) lost (area_of_gaps (high -ℤ low) y (gap e f low) (gap e f high)) in
     subst P (lt_yes (lowest e f) (highest e f) (ordered low high (lowest e f) (highest e f) l m h))

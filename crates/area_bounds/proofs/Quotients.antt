@@ -59,7 +59,8 @@ squares_bound P L f s r h k =
 pub triangles_above : (P h f s r p q o once twice : ℕ) → (f * f + s * s) * P ≡ o * (2 * r) + once → o ≡ q * p + twice
     → f + s ≡ p * h → q * (2 * r * (f + s)) ≤ P * (h * (f * f + s * s))
 triangles_above P h f s r p q o once twice e d k =
-    let a : q * p * (2 * r) ≤ (f * f + s * s) * P = rw e (omega (arith, mul-le (q * p) (2 * r) o (2 * r) (omega (arith, d)) (omega arith))) in
+    let a : q * p * (2 * r) ≤ (f * f + s * s) * P =
+    rw e (omega (arith, mul-le (q * p) (2 * r) o (2 * r) (omega (arith, d)) (omega arith))) in
     let b : q * p * (2 * r) * h ≤ (f * f + s * s) * P * h = mul-le (q * p * (2 * r)) h ((f * f + s * s) * P) h a (omega arith) in
     let c : q * (2 * r * (p * h)) ≤ P * (h * (f * f + s * s)) = omega (arith, b) in
     rw k c
@@ -68,19 +69,24 @@ pub triangles_below : (P h f s r p q o once twice lost : ℕ) → (f * f + s * s
     → f + s ≡ p * h → once < 2 * r → twice < p → (lost ≡ 0 → (once ≡ 0) × (twice ≡ 0))
     → P * (h * (f * f + s * s)) ≤ (q + lost) * (2 * r * (f + s))
 triangles_below P h f s r p q o once twice lost e d k ho ht hl =
-    let a : (f * f + s * s) * P ≤ (q + lost) * (p * (2 * r)) = rw (e, d) (omega (arith, two_within_lost once twice (2 * r) p lost ho ht hl)) in
-    let b : (f * f + s * s) * P * h ≤ (q + lost) * (p * (2 * r)) * h = mul-le ((f * f + s * s) * P) h ((q + lost) * (p * (2 * r))) h a (omega arith) in
+    let a : (f * f + s * s) * P ≤ (q + lost) * (p * (2 * r)) =
+    rw (e, d) (omega (arith, two_within_lost once twice (2 * r) p lost ho ht hl)) in
+    let b : (f * f + s * s) * P * h ≤ (q + lost) * (p * (2 * r)) * h =
+    mul-le ((f * f + s * s) * P) h ((q + lost) * (p * (2 * r))) h a (omega arith) in
     let c : P * (h * (f * f + s * s)) ≤ (q + lost) * (2 * r * (p * h)) = omega (arith, b) in
     rw k c
 
 pub triangles_bound : (P L h f s r p q o once twice : ℕ) → (f * f + s * s) * P ≡ o * (2 * r) + once → o ≡ q * p + twice
     → f + s ≡ p * h → f + s ≤ 4 * L * r → h ≤ 2 * L → 0 < r → 0 < p → q ≤ P * (2 * L * (2 * L))
 triangles_bound P L h f s r p q o once twice e d k hs hh hr hp =
-    let a : q * p * (2 * r) ≤ (f * f + s * s) * P = rw e (omega (arith, mul-le (q * p) (2 * r) o (2 * r) (omega (arith, d)) (omega arith))) in
-    let b : (f * f + s * s) * P ≤ (f + s) * (f + s) * P = mul-le (f * f + s * s) P ((f + s) * (f + s)) P (squares_within f s) (omega arith) in
+    let a : q * p * (2 * r) ≤ (f * f + s * s) * P =
+    rw e (omega (arith, mul-le (q * p) (2 * r) o (2 * r) (omega (arith, d)) (omega arith))) in
+    let b : (f * f + s * s) * P ≤ (f + s) * (f + s) * P =
+    mul-le (f * f + s * s) P ((f + s) * (f + s)) P (squares_within f s) (omega arith) in
     let g : f + s ≤ p * (2 * L) = omega (arith, k, mul-le p h p (2 * L) (omega arith) hh) in
     let c : (f + s) * (f + s) ≤ p * (2 * L) * (4 * L * r) = mul-le (f + s) (f + s) (p * (2 * L)) (4 * L * r) g hs in
-    let m : (f + s) * (f + s) * P ≤ p * (2 * L) * (4 * L * r) * P = mul-le ((f + s) * (f + s)) P (p * (2 * L) * (4 * L * r)) P c (omega arith) in
+    let m : (f + s) * (f + s) * P ≤ p * (2 * L) * (4 * L * r) * P =
+    mul-le ((f + s) * (f + s)) P (p * (2 * L) * (4 * L * r)) P c (omega arith) in
     let z : 0 < p * r = mul_positive p r hp hr in
     cancelled q (P * (2 * L * (2 * L))) (2 * (p * r)) (omega (arith, z)) (omega (arith, a, b, m))
   where

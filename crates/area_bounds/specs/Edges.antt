@@ -13,4 +13,5 @@ edge_of rising =
 -- how fast two lines part
 abbrev pub parting_of : Rising → Rising → ℤ
 parting_of one other =
-    (one.high.x -ℤ one.low.x) *ℤ (other.high.y -ℤ other.low.y) -ℤ (other.high.x -ℤ other.low.x) *ℤ (one.high.y -ℤ one.low.y)
+    (one.high.x -ℤ one.low.x) *ℤ (other.high.y -ℤ other.low.y)
+    -ℤ (other.high.x -ℤ other.low.x) *ℤ (one.high.y -ℤ one.low.y)

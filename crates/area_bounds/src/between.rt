@@ -104,7 +104,8 @@ fn signed_parts(one: Rising, other: Rising) -> Parts
 #[inline(always)]
 fn are_apart(one: Rising, from: Corner, to: Corner) -> bool
     ensures { IsTrue result
-        → highest (edge_of one) (record { from = from; to = to }) ≤ℤ lowest (edge_of one) (record { from = from; to = to }) }
+        → highest (edge_of one) (record { from = from; to = to })
+        ≤ℤ lowest (edge_of one) (record { from = from; to = to }) }
 {
     if from.y <= one.low.y {
         return to.y <= one.low.y;

@@ -74,7 +74,8 @@ impl Rising {
     pub fn place(self, y: i64) -> u128
         requires low { self.low.y ≤ℤ y }
         requires high { y ≤ℤ self.high.y }
-        ensures value { pos result ≡ (self.low.x +ℤ pos limit) *ℤ (self.high.y -ℤ y) +ℤ (self.high.x +ℤ pos limit) *ℤ (y -ℤ self.low.y) }
+        ensures value { pos result ≡ (self.low.x +ℤ pos limit) *ℤ (self.high.y -ℤ y)
+            +ℤ (self.high.x +ℤ pos limit) *ℤ (y -ℤ self.low.y) }
         ensures bound { pos result ≤ℤ (pos (2 * limit) *ℤ (self.high.y -ℤ self.low.y)) }
     {
         weighted(

@@ -6,10 +6,11 @@ ghost use Rattle.area_bounds.specs.Parts.{IsShare};
 
 use wide_numbers::{divided_with_rest, product};
 
-/// How many parts a square millimetre has, 2 ^ 26.
+/// How many parts a square millimetre has, 2 ^ 26. Each pair of edges loses one part at most, so fewer pairs lose less
+/// than a square millimetre together.
 pub const PARTS: u64 = 67_108_864;
 
-/// So many parts, rounded down.
+/// So many parts, rounded down: of 10/3 square millimetres 223,696,213, and 1 is lost.
 #[derive(Clone, Copy, Debug, PartialEq, Eq)]
 pub struct Counted {
     /// The whole parts.
@@ -76,7 +77,8 @@ pub fn triangles(height: u64, rises: u128, parting: u128, first: u128, second: u
     requires apart { 0 < parting }
     requires parting { parting ≤ 2 * (2 * limit * (2 * limit)) }
     requires sides_part { first + second ≡ parting * height }
-    ensures counted { IsShare result.parts result.lost (height * (first * first + second * second)) (2 * rises * (first + second)) }
+    ensures counted { IsShare result.parts result.lost (height * (first * first + second * second))
+        (2 * rises * (first + second)) }
     ensures bound { result.parts ≤ PARTS * (2 * limit * (2 * limit)) }
     ensures lost { result.lost ≤ 1 }
 {

@@ -4,7 +4,8 @@ ghost use Rattle.std.specs.Prelude.{◌<ℤ◌};
 
 use geo_exact::Corner;
 
-/// An edge that is not level.
+/// An edge that is not level, by its lower end and its higher one: that from (0, 5) to (3, 1) has the lower end (3, 1),
+/// and goes down.
 #[derive(Clone, Copy, Debug)]
 pub struct Rising {
     /// Its lower end.

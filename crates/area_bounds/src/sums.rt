@@ -13,7 +13,7 @@ use crate::parts::{PARTS, Parts};
 use crate::rising::Rising;
 use geo_exact::{Corner, RING_CORNERS};
 
-/// Whole numbers between which a twice-area lies, in square millimetres.
+/// Whole numbers between which a twice-area lies, in square millimetres, as 3 and 4 for 10/3.
 #[derive(Clone, Copy, Debug, PartialEq, Eq)]
 pub struct AreaBounds {
     /// It is at least this.
@@ -45,7 +45,8 @@ fn ring_parts(one: Rising, ring: &[Corner]) -> Parts
 /// The same of an edge that may be level.
 fn row_parts(from: Corner, to: Corner, ring: &[Corner]) -> Parts
     requires { length ring.now ≤ RING_CORNERS }
-    ensures counted { IsCounted result.low result.lost (sum_shares (between (record { from = from; to = to })) (edges ring.now)) }
+    ensures counted { IsCounted result.low result.lost
+        (sum_shares (between (record { from = from; to = to })) (edges ring.now)) }
     ensures bound { IsWithin (3 * 2 ^ 100 * RING_CORNERS) result.low }
     ensures lost { result.lost ≤ length ring.now }
 {
@@ -55,8 +56,8 @@ fn row_parts(from: Corner, to: Corner, ring: &[Corner]) -> Parts
     }
 }
 
-/// The parts of the area common to two rings. No more are lost than there are pairs of an edge of the one and an edge of
-/// the other.
+/// The parts of the area common to two rings. No more are lost than there are pairs of an edge
+/// of the one and an edge of the other.
 pub fn common_parts(one: &[Corner], other: &[Corner]) -> Parts
     requires one { length one.now ≤ RING_CORNERS }
     requires other { length other.now ≤ RING_CORNERS }

@@ -4,6 +4,7 @@ ghost use Rattle.std.specs.Prelude.{◌≡◌, ◌⊎◌, ◌<◌, ◌≤◌, le
 ghost use Rattle.std.specs.Borrow.{Bor};
 ghost use Rattle.geo_exact.specs.Bytes.{raised};
 ghost use Rattle.overlay_work.specs.declared.round.TheConstants.{MOST_HANDS};
+ghost use Rattle.desk_lock.specs.declared.opening.TheConstants.{MOST_PLACES};
 ghost use Rattle.city_layers.specs.declared.fault.ToolFault.{ToolFault as ToolFaultValue};
 ghost use Rattle.city_layers.specs.TilingFiles.{files_of};
 ghost use Rattle.parcel_runs.specs.RunFiles.{parcel_run_of};
@@ -13,10 +14,10 @@ ghost use Rattle.area_runs.specs.own.LinesReportsAreas.{WritesAll, BeginsAll};
 
 use area_shares::{AreaLine, area_lines_by, write_areas};
 use city_layers::{Source, ToolFault};
+use clerk_runs::Edited;
 use geo_exact::ByteOut;
 use overlay_work::{MOST_HANDS, Table, write_report};
-use parcel_runs::overlay::edited_sheet;
-use parcel_runs::{OverlayInputs, RunFiles, load_overlay_inputs, overlay_table};
+use parcel_runs::{RunFiles, RunInputs, edit_layer, load_inputs, overlay_table};
 use std::alloc::Allocator;
 use std::sync::Wait;
 use std::thread::Threads;
@@ -55,6 +56,9 @@ pub fn overlay_areas<
         ⊎ (fault ≡ ToolFault.Output)) }
     ensures refuses { (fault : ToolFaultValue) → IsOverlayFault (parcel_run_of files.now) (files_of zones.now) fault
         → IsErrAnd result (λ told. (told ≡ fault) ⊎ (told ≡ ToolFault.NoMemory)) }
+    // Too many clerks' files are told before any memory is asked for, and nothing is written.
+    ensures many { MOST_PLACES < length files.now.clerks.items
+        → IsErrOf result (ToolFault.ClerkCount (length files.now.clerks.items)) × (out.new ≡ out.old) }
 
     // Only a writer that failed in this call ends the output early.
     ensures output { IsErrOf result ToolFault.Output
@@ -62,8 +66,13 @@ pub fn overlay_areas<
     ensures failed { IsErrOf result ToolFault.Output → W.failure_count out.new ≡ raised (W.failure_count out.old) }
     ensures no_failure { OnOk result (W.failure_count out.new ≡ W.failure_count out.old) }
 {
-    let OverlayInputs { run, zones } = load_overlay_inputs(rt, workers, heap, files, zones)?;
-    let (sheet, lines) = edited_sheet(rt, heap, run)?;
+    let RunInputs {
+        layer,
+        clerks,
+        zones,
+    } = load_inputs(rt, workers, heap, files, Some(zones))?;
+    let Some(zones) = zones else { unreachable!() };
+    let Edited { sheet, lines, .. } = edit_layer(rt, heap, layer, clerks, &[])?;
     let table = overlay_table(rt, heap, &sheet, &zones, workers)?;
     let areas = area_lines_by(rt, workers, heap, &sheet, &zones, table.pairs())?;
     write_all(lines.as_slice(), &table, areas.as_slice(), out)

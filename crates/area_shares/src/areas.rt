@@ -15,7 +15,7 @@ use zone_tables::each_parcel_overlaps_a_zone;
 ///
 /// # Errors
 ///
-/// [`AllocError`] where an allocation is refused; some lines were added then.
+/// [`AllocError`] where an allocation fails; some lines were added then.
 pub fn push_area_lines<'p, 'z, H: Allocator, A: Allocator + Copy>(
     lines: &mut Vec<AreaLine, A>,
     parcels: &Sheet<'p, H>,
@@ -44,7 +44,7 @@ pub fn push_area_lines<'p, 'z, H: Allocator, A: Allocator + Copy>(
 ///
 /// # Errors
 ///
-/// [`AllocError`] where an allocation is refused.
+/// [`AllocError`] where an allocation fails.
 ///
 /// ```
 /// let lines = area_lines(alloc, &sheet, &zones, table.pairs())?;

@@ -84,12 +84,12 @@ fn joined<'h, H: Allocator, A: Allocator + Copy>(
     Ok(all)
 }
 
-/// As [`area_lines`], by so many threads at the most, each of which has a slice of the parcels. For each number of them,
-/// and however they take turns, what comes out is the same. What the system refuses a thread is done in this one.
+/// As [`area_lines`], by so many threads at the most, each of which has a slice of the parcels. For each number of
+/// them, and however they take turns, what comes out is the same. What the system refuses a thread is done in this one.
 ///
 /// # Errors
 ///
-/// [`AllocError`] where an allocation is refused.
+/// [`AllocError`] where an allocation fails.
 ///
 /// ```
 /// let lines = area_lines_by(rt, 4, alloc, &sheet, &zones, table.pairs())?;

@@ -17,19 +17,23 @@ const REQUESTS: [(&str, &str); 16] = [
     ),
     (
         "parcel_tool check --unit m a.shp b.shp",
-        "Check { inputs: Inputs { city: \"a.shp\", parcels: \"b.shp\", unit: M, clerks: [], workers: None }, all: false }",
+        "Check { inputs: Inputs { city: \"a.shp\", parcels: \"b.shp\", unit: M, clerks: [], workers: None }, \
+         all: false }",
     ),
     (
         "parcel_tool check a --clerk d --all b --unit cm --clerk c --workers 3",
-        "Check { inputs: Inputs { city: \"a\", parcels: \"b\", unit: Cm, clerks: [\"d\", \"c\"], workers: Some(Workers { count: 3 }) }, all: true }",
+        "Check { inputs: Inputs { city: \"a\", parcels: \"b\", unit: Cm, clerks: [\"d\", \"c\"], \
+         workers: Some(Workers { count: 3 }) }, all: true }",
     ),
     (
         "parcel_tool export a b --unit mm --out new/town --clerk c",
-        "Export { inputs: Inputs { city: \"a\", parcels: \"b\", unit: Mm, clerks: [\"c\"], workers: None }, base: \"new/town\", force: false }",
+        "Export { inputs: Inputs { city: \"a\", parcels: \"b\", unit: Mm, clerks: [\"c\"], workers: None }, \
+         base: \"new/town\", force: false }",
     ),
     (
         "parcel_tool locate --points - a b --unit m --clerk c --clerk c",
-        "Locate { inputs: Inputs { city: \"a\", parcels: \"b\", unit: M, clerks: [\"c\", \"c\"], workers: None }, points: File(\"-\") }",
+        "Locate { inputs: Inputs { city: \"a\", parcels: \"b\", unit: M, clerks: [\"c\", \"c\"], workers: None }, \
+         points: File(\"-\") }",
     ),
     (
         "parcel_tool overlay a b c --unit cm --clerk d",
@@ -38,8 +42,8 @@ const REQUESTS: [(&str, &str); 16] = [
     ),
     (
         "parcel_tool overlay a --workers 64 b c --unit m",
-        "Overlay { inputs: Inputs { city: \"a\", parcels: \"b\", unit: M, clerks: [], workers: Some(Workers { count: 64 }) }, \
-         zones: \"c\", areas: false }",
+        "Overlay { inputs: Inputs { city: \"a\", parcels: \"b\", unit: M, clerks: [], \
+         workers: Some(Workers { count: 64 }) }, zones: \"c\", areas: false }",
     ),
     (
         "parcel_tool overlay a b --areas c --unit m",

@@ -73,7 +73,8 @@ unseen p q says xs = filter_both p q xs ∙ filter_agree _ _ (λ x. implied (p x
 
 -- ---- what the cells show
 pub shown_alike : (area : Bounds) (old new : List Cell) → contents old ≡ contents new → shown area old ≡ shown area new
-shown_alike area old new e = ap (λ (xs : List (List IndexEntry)). record { area = area; cells = take 4096 xs; beside = get_or xs 4096 [] }) e
+shown_alike area old new e =
+    ap (λ (xs : List (List IndexEntry)). record { area = area; cells = take 4096 xs; beside = get_or xs 4096 [] }) e
 
 module _ (area : Bounds) (cells : List Cell) (all : length cells ≡ 4097) (entries : List IndexEntry) where
   pub items_shown : (k : ℕ) → k < 4096 → get_or (shown area cells).cells k [] ≡ (cell_at cells k).items

@@ -8,3 +8,4 @@ pub mod CellsKept
 pub mod Batches
 pub mod Gathered
 pub mod Searches
+pub mod Crossing

@@ -48,7 +48,8 @@ cells_along low high from to = min ACROSS (cell_of low high to + 1) - min ACROSS
 
 -- how many cells of the grid the box stands in
 abbrev pub box_cells : Bounds → Bounds → ℕ
-box_cells area box = cells_along area.low.x area.high.x box.low.x box.high.x * cells_along area.low.y area.high.y box.low.y box.high.y
+box_cells area box =
+    cells_along area.low.x area.high.x box.low.x box.high.x * cells_along area.low.y area.high.y box.low.y box.high.y
 
 -- the box stands in so many cells that its entry is kept in none of them
 abbrev pub is_wide : Bounds → Bounds → Bool
@@ -61,7 +62,7 @@ wide area entries = filter (λ entry. is_wide area entry.bounds) entries
 abbrev pub narrow : Bounds → List IndexEntry → List IndexEntry
 narrow area entries = filter (λ entry. not (is_wide area entry.bounds)) entries
 
--- what an index shows: its area, the lists of what is kept in its cells, column by column, and the list of what is kept beside them
+-- what an index shows: its area, what is kept in each of its cells, column by column, and what is kept beside them
 pub record Grid : Type 0 where
   pub area : Bounds
   pub cells : List (List IndexEntry)
@@ -71,12 +72,13 @@ pub record Grid : Type 0 where
 abbrev pub cell : Grid → ℕ → ℕ → List IndexEntry
 cell grid i j = slice_index_or grid.cells (ACROSS * i + j) []
 
--- what stands in the cell of column i and row j: what is kept in it, and what stands there of that which is kept beside the cells
+-- what stands in the cell of column i and row j: what is kept in it, and what stands there
+-- of that which is kept beside the cells
 abbrev pub standing : Grid → ℕ → ℕ → List IndexEntry
 standing grid i j = cell grid i j ++ filter (λ entry. stands_in grid.area i j entry.bounds) grid.beside
 
--- In each cell are kept exactly the entries of the list whose boxes stand there and are not wide, and beside the cells those whose boxes
--- are wide, each as often as in the list and in its order. So in each cell stand exactly the entries whose boxes stand there.
+-- Each cell keeps exactly the listed entries whose boxes stand there and are not wide, and beside the cells are those
+-- with wide boxes, each as often as listed and in that order. So in each cell stand those whose boxes do.
 pub record Indexes (grid : Grid) (entries : List IndexEntry) : Type 0 where
   pub all_cells : length grid.cells ≡ ACROSS * ACROSS
   pub in_cells : (i j : ℕ) → i < ACROSS → j < ACROSS
@@ -99,7 +101,8 @@ HaveOwnKeys entries = AllPairs (λ a b. a.key ≢ b.key) entries
 abbrev pub brought_into : (low high z : ℤ) → ℤ
 brought_into low high z = int_max low (int_min high z)
 
--- the cell of column i and row j is between those of two corners, these included, when both corners are brought into the area
+-- the cell of column i and row j is between those of two corners, these included, when
+-- both corners are brought into the area
 pub record IsCellBetween (area : Bounds) (low high : Corner) (i j : ℕ) : Type 0 where
   pub from_column : column area (brought_into area.low.x area.high.x low.x) ≤ i
   pub to_column : i ≤ column area (brought_into area.low.x area.high.x high.x)

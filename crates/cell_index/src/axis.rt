@@ -2,7 +2,8 @@
 
 ghost use Rattle.std.specs.Prelude.{◌≡◌, ◌+◌, ◌-◌, ◌<◌, ◌≤◌, ◌↔◌, ℕ, min};
 ghost use Rattle.cell_index.specs.declared.axis.TheConstants.{ACROSS};
-ghost use Rattle.cell_index.specs.Cells.{distance as distance_of, cell_side as side_of, cell_of as cell_along, cells_along, brought_into};
+ghost use Rattle.cell_index.specs.Cells.{distance as distance_of, cell_side as side_of};
+ghost use Rattle.cell_index.specs.Cells.{cell_of as cell_along, cells_along, brought_into};
 
 /// How many cells the grid has along each axis.
 pub(crate) const ACROSS: usize = 64;
@@ -22,6 +23,7 @@ fn distance(from: i64, to: i64) -> u64
 fn cell_side(low: i64, high: i64) -> u64
     ensures { result ≡ side_of low high }
 {
+    // One more than the share, so that the high end lies in the last cell.
     distance(low, high) / 64 + 1
 }
 

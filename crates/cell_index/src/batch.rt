@@ -31,8 +31,10 @@ pub fn make_room_for_all<'a, H: Allocator>(
 /// Takes entries out of all cells that they are kept in. No cell has less room than before.
 pub fn take_all_out<'a, H: Allocator>(cells: &mut [Cell<'a, H>], area: Bounds, gone: &[IndexEntry])
     requires { length cells.old ≡ 4097 }
-    ensures kept { (entries : List IndexEntry) → Keeps area cells.old entries → Keeps area cells.new (without gone.now entries) }
-    ensures room { (come : List IndexEntry) (count : ℕ) → HaveRoomForAll area come count cells.old → HaveRoomForAll area come count cells.new }
+    ensures kept { (entries : List IndexEntry) → Keeps area cells.old entries
+        → Keeps area cells.new (without gone.now entries) }
+    ensures room { (come : List IndexEntry) (count : ℕ) → HaveRoomForAll area come count cells.old
+        → HaveRoomForAll area come count cells.new }
 {
     for entry in gone {
         take_out(cells, places_of(area, entry.bounds), *entry);

@@ -3,7 +3,8 @@
 ghost use Rattle.std.specs.Prelude.{◌≡◌, length, not, OnOk};
 ghost use Rattle.std.specs.List.{filter};
 ghost use Rattle.cell_index.specs.Cells.{is_same_entry};
-ghost use Rattle.cell_index.specs.own.Ranges.{place_count, contents, HaveRoom, KeepRoom, IsChanged, with_entry, passing};
+ghost use Rattle.cell_index.specs.own.Ranges.{place_count, contents, HaveRoom, KeepRoom};
+ghost use Rattle.cell_index.specs.own.Ranges.{IsChanged, with_entry, passing};
 
 use crate::entry::{IndexEntry, is_entry};
 use crate::places::Places;
@@ -54,7 +55,8 @@ fn take_from<'a, H: Allocator>(cell: &mut Cell<'a, H>, gone: IndexEntry)
 /// Takes an entry out of each of some cells.
 pub fn take_out<'a, H: Allocator>(cells: &mut [Cell<'a, H>], places: Places, gone: IndexEntry)
     requires { length cells.old ≡ 4097 }
-    ensures { IsChanged places (place_count places) (passing (λ entry. not (is_same_entry entry gone))) cells.old cells.new }
+    ensures { IsChanged places (place_count places) (passing (λ entry. not (is_same_entry entry gone)))
+        cells.old cells.new }
 {
     for n in 0..places.count() {
         take_from(&mut cells[places.number(n)], gone);

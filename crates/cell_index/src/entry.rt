@@ -5,7 +5,8 @@ ghost use Rattle.cell_index.specs.Cells.{is_same_entry};
 
 use geo_exact::Bounds;
 
-/// A key with its box beside it. Coordinates are in whole millimetres.
+/// A key with its box beside it: of a fabric's parcel the key in its table, and the box of its ring. Coordinates are in
+/// whole millimetres.
 #[derive(Clone, Copy, Debug, PartialEq, Eq)]
 pub struct IndexEntry {
     /// What the entry stands for, as its owner numbers it.

@@ -146,7 +146,8 @@ impl<'a, H: Allocator> CellIndex<'a, H> {
     /// [`AllocError`] where the list of keys is refused.
     pub fn between(&self, low: Corner, high: Corner) -> Result<Vec<usize, &'a H>, AllocError>
         ensures found { (entries : List IndexEntry) → Indexes self.now entries
-            → IfOk result (λ keys. (key : ℕ) → Contains keys.items key ↔ IsKeyBetween self.now.area low high entries key) }
+            → IfOk result (λ keys. (key : ℕ) → Contains keys.items key
+            ↔ IsKeyBetween self.now.area low high entries key) }
         ensures once { (entries : List IndexEntry) → Indexes self.now entries → HaveOwnKeys entries
             → IfOk result (λ keys. AllPairs (λ a b. a ≢ b) keys.items) }
     {
@@ -178,7 +179,8 @@ impl<'a, H: Allocator> CellIndex<'a, H> {
         keys: &mut Vec<usize, &'a H>,
     ) -> Result<(), AllocError>
         ensures { OnOk result (keys.new.items ≡ keys.old.items
-            ++ map (λ entry. entry.key) (filter (λ entry. has_some_of self.now.area range entry.bounds) self.now.beside)) }
+            ++ map (λ entry. entry.key) (filter (λ entry. has_some_of self.now.area range entry.bounds)
+            self.now.beside)) }
     {
         for entry in self.cells[WIDE_CELL].as_slice() {
             if range.has_some_of(self.area, entry.bounds) {

@@ -16,8 +16,10 @@ ghost use Rattle.cell_index.specs.Cells.{stands_in, stands_at, Grid, standing, I
 /// In each cell of an index stand exactly the entries whose boxes stand there, each as often as in
 /// the list, wherever it is kept: no test on entries tells the two lists apart by how many pass it.
 pub fn in_each_cell_stand_the_entries_of_its_boxes()
-    ensures { (grid : Grid) (entries : List IndexEntry) → Indexes grid entries → (i j : ℕ) → i < ACROSS → j < ACROSS → (test : IndexEntry → Bool)
-        → count_by test (standing grid i j) ≡ count_by test (filter (λ entry. stands_in grid.area i j entry.bounds) entries) }
+    ensures { (grid : Grid) (entries : List IndexEntry) → Indexes grid entries → (i j : ℕ) → i < ACROSS → j < ACROSS
+        → (test : IndexEntry → Bool)
+        → count_by test (standing grid i j)
+        ≡ count_by test (filter (λ entry. stands_in grid.area i j entry.bounds) entries) }
 {}
 
 /// A ring whose box does not stand in the cell of a corner has it neither on an edge nor inside: so

@@ -1,5 +1,5 @@
 //! An index of boxes by the cells of a grid of 64 by 64 cells over an area: which boxes may hold a
-//! place is answered from the one cell that the place is in.
+//! point is answered from the one cell that the point is in.
 #![tactic(auto)]
 
 mod axis;

@@ -9,7 +9,7 @@ ghost use Rattle.cell_index.specs.declared.axis.TheConstants.{ACROSS};
 use crate::axis::{ACROSS, Span, cell_of, cells_from_to, into_range};
 use geo_exact::{Bounds, Corner};
 
-/// The cells that some columns and some rows of the grid have in common.
+/// The cells that some columns and some rows of the grid have in common: six of two columns and three rows.
 #[derive(Clone, Copy)]
 pub struct CellRange {
     /// The columns.

@@ -16,15 +16,18 @@ area_line ring = decimal ring.number ++ codes " " ++ decimal (unsigned_abs (area
 abbrev pub area_report : List NumberedRing → List ℕ
 area_report rings = flat_map area_line rings
 
--- the bytes are a layer's main file and, where there is one, its index, and the report of its rings was written after the told bytes
-pub record WritesReport (main : List ℕ) (index : Option (List ℕ)) (unit : LengthUnit) (old new : Option (List ℕ)) : Type 0 where
+-- the bytes are a layer's main file and, where there is one, its index, and the report of its rings was written after
+-- the told bytes
+pub record WritesReport (main : List ℕ) (index : Option (List ℕ)) (unit : LengthUnit)
+    (old new : Option (List ℕ)) : Type 0 where
   pub rings : List NumberedRing
   pub is_file : IsLayerFile main index unit rings
   pub is_written : Appends old new (area_report rings)
 
 -- the bytes are a layer's main file and, where there is one, its index, and a beginning of the report of its rings
 -- was written after the told bytes
-pub record WritesBeginning (main : List ℕ) (index : Option (List ℕ)) (unit : LengthUnit) (old new : Option (List ℕ)) : Type 0 where
+pub record WritesBeginning (main : List ℕ) (index : Option (List ℕ)) (unit : LengthUnit)
+    (old new : Option (List ℕ)) : Type 0 where
   pub rings : List NumberedRing
   pub is_file : IsLayerFile main index unit rings
   pub is_begun : AppendsBeginning old new (area_report rings)

@@ -15,9 +15,9 @@ use Rattle.fabric_core.specs.declared.layer.LoadFault.TheVariants.{TooMany, Ring
 use Rattle.fabric_core.specs.Rows.{AreRefined}
 use Rattle.fabric_core.specs.Faults.{AreRingFaults, AreGaps}
 use Rattle.city_layers.specs.declared.fault.ToolFault.{ToolFault}
-use Rattle.city_layers.specs.declared.fault.ToolFault.TheVariants.{Unreadable, UnreadableIndex, Output, File, CityCount, CityRing, NoTiling}
-use Rattle.city_layers.specs.declared.fault.ToolFault.TheVariants.{ClerkCount, ClerkLine, PointLine, NoParcel, NoThread, NoWindow}
-use Rattle.city_layers.specs.declared.fault.ToolFault.TheVariants.{NoMemory}
+use Rattle.city_layers.specs.declared.fault.ToolFault.TheVariants.{Unreadable, UnreadableIndex, Output, File, CityCount}
+use Rattle.city_layers.specs.declared.fault.ToolFault.TheVariants.{CityRing, NoTiling, ClerkCount, ClerkLine, PointLine}
+use Rattle.city_layers.specs.declared.fault.ToolFault.TheVariants.{NoParcel, NoThread, NoWindow, NoMemory}
 use Rattle.text_pieces.specs.CornerText.{corner_text}
 use Rattle.text_pieces.specs.RingFaultText.{ring_fault_text}
 use Rattle.city_layers.specs.TilingFiles.{Files, IsCityOf}
@@ -50,7 +50,8 @@ AreKindLines rows refined (Gap a b net) lines =
 AreKindLines rows refined LayerMemory lines = ⊥
 
 -- the files are a layer, and the lines are those of all faults that it has in the city, of the first fault's kind
-pub record AreLayerLines (files : Files) (unit : LengthUnit) (city : List Corner) (fault : LoadFault) (lines : List ℕ) : Type 0 where
+pub record AreLayerLines (files : Files) (unit : LengthUnit) (city : List Corner) (fault : LoadFault)
+    (lines : List ℕ) : Type 0 where
   pub records : List NumberedRing
   pub are_records : IsLayerFile files.main files.index unit records
   pub rows : List NumberedRing

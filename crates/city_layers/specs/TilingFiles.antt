@@ -9,7 +9,8 @@ use Rattle.shp_files.specs.FirstFault.{IsFirstFault}
 use Rattle.fabric_core.specs.declared.city.CityFault.{CityFault}
 use Rattle.fabric_core.specs.declared.city.CityFault.TheVariants.{Ring as CityFaultRing, Folded, NoMemory as CityMemory}
 use Rattle.fabric_core.specs.declared.layer.LoadFault.{LoadFault}
-use Rattle.fabric_core.specs.declared.layer.LoadFault.TheVariants.{TooMany, Ring as LayerFaultRing, Gap, NoMemory as LayerMemory}
+use Rattle.fabric_core.specs.declared.layer.LoadFault.TheVariants.{TooMany, Ring as LayerFaultRing, Gap}
+use Rattle.fabric_core.specs.declared.layer.LoadFault.TheVariants.{NoMemory as LayerMemory}
 use Rattle.fabric_core.specs.Tiling.{IsTiling}
 use Rattle.fabric_core.specs.Rows.{AreRefined, Tiles}
 use Rattle.fabric_core.specs.Faults.{IsCityFault, IsLoadFault}
@@ -17,8 +18,9 @@ use Rattle.city_layers.specs.declared.sources.Source.{Source}
 use Rattle.city_layers.specs.declared.fault.Role.{Role}
 use Rattle.city_layers.specs.declared.fault.Role.TheVariants.{City, Parcels}
 use Rattle.city_layers.specs.declared.fault.ToolFault.{ToolFault}
-use Rattle.city_layers.specs.declared.fault.ToolFault.TheVariants.{Unreadable, UnreadableIndex, Output, File, CityCount, CityRing, NoTiling}
-use Rattle.city_layers.specs.declared.fault.ToolFault.TheVariants.{ClerkCount, ClerkLine, PointLine, NoParcel, NoThread, NoWindow, NoMemory}
+use Rattle.city_layers.specs.declared.fault.ToolFault.TheVariants.{Unreadable, UnreadableIndex, Output, File, CityCount}
+use Rattle.city_layers.specs.declared.fault.ToolFault.TheVariants.{CityRing, NoTiling, ClerkCount, ClerkLine, PointLine}
+use Rattle.city_layers.specs.declared.fault.ToolFault.TheVariants.{NoParcel, NoThread, NoWindow, NoMemory}
 use Rattle.city_layers.specs.Sources.{index_of}
 
 -- the bytes of a layer's files
@@ -72,7 +74,7 @@ IsFaultOfCity files unit (UnreadableIndex stem) = ⊥
 IsFaultOfCity files unit Output = ⊥
 IsFaultOfCity files unit NoMemory = ⊥
 
--- the layer of these files, in a city: its rings, noded and numbered as the records; they have no fault, and tile the city
+-- the layer of these files, in a city: its rings, noded, numbered as the records, without a fault, and tiling the city
 pub record IsTiledBy (files : Files) (unit : LengthUnit) (city : List Corner) (tiles : Tiles) : Type 0 where
   pub records : List NumberedRing
   pub are_records : IsLayerFile files.main files.index unit records

@@ -20,4 +20,5 @@ pub record IsZonesFault (city parcels zones : Files) (unit : LengthUnit) (fault 
 
 -- the fault is the first of the three layers: the city's before the parcels', and these before the zones'
 abbrev pub IsLayersFault : Files → Files → Files → LengthUnit → ToolFault → Type 0
-IsLayersFault city parcels zones unit fault = IsTilesFault city parcels unit fault ⊎ IsZonesFault city parcels zones unit fault
+IsLayersFault city parcels zones unit fault =
+    IsTilesFault city parcels unit fault ⊎ IsZonesFault city parcels zones unit fault

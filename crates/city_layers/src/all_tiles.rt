@@ -3,7 +3,7 @@
 ghost use Rattle.std.specs.Prelude.{◌≡◌, ◌⊎◌, [], IfOk, IfErr, IsErrAnd, None};
 ghost use Rattle.city_layers.specs.declared.fault.ToolFault.{ToolFault as ToolFaultValue};
 ghost use Rattle.city_layers.specs.FaultLines.{AreLinesBefore, text_or_none, fault_lines as fault_lines_of};
-ghost use Rattle.city_layers.specs.TilingFiles.{Files, files_of, told_of_load as told_of_load_fault, IsCityOf};
+ghost use Rattle.city_layers.specs.TilingFiles.{Files, files_of, told_of_load, IsCityOf};
 ghost use Rattle.city_layers.specs.TilingFiles.{IsTiledBy, IsFaultOfLayer, AreTiles, IsTilesFault};
 ghost use Rattle.fabric_core.specs.Rows.{Tiles};
 
@@ -17,6 +17,21 @@ use geo_exact::Unit;
 use shp_files::a_layer_file_is_within_the_limits;
 use std::alloc::Allocator;
 use std::thread::Threads;
+
+// The layer has this role in the run.
+impl<'a> From<(Role, LoadFault)> for ToolFault<'a> {
+    ghost from_gives = { λ refused told. told ≡ told_of_load refused.0 refused.1 };
+
+    fn from(refused: (Role, LoadFault)) -> ToolFault<'a> {
+        let (role, fault) = refused;
+        match fault {
+            LoadFault::NoMemory => ToolFault::NoMemory,
+            LoadFault::TooMany(_) | LoadFault::Ring(_, _) | LoadFault::Gap(_, _, _) => {
+                ToolFault::NoTiling(role, fault)
+            }
+        }
+    }
+}
 
 /// A fault that ends a run, and the lines of all faults of its kind that come before it, where there may be some.
 #[derive(Debug)]
@@ -65,14 +80,16 @@ pub(crate) fn read_told<'h, H: Allocator, A: Allocator>(
     asked: Asked,
 ) -> Result<Layer<'h, H>, LayerRefusal<&'h H>>
     ensures layer { IfOk result (λ layer. IsTiledBy (files_of files.now) unit city.now.ring.corners layer) }
-    ensures fault { IfErr result (λ refusal. (IsFaultOfLayer role (files_of files.now) unit city.now.ring.corners refusal.fault
+    ensures fault { IfErr result (λ refusal. (IsFaultOfLayer role (files_of files.now) unit
+        city.now.ring.corners refusal.fault
         × (asked ≡ Asked.All → (of_city : Files) → IsCityOf of_city unit city.now.ring.corners
         → AreLinesBefore of_city (files_of files.now) unit refusal.fault (text_or_none refusal.lines)))
         ⊎ ((refusal.fault ≡ ToolFault.NoMemory) × (text_or_none refusal.lines ≡ []))) }
     // Files whose rings tile the city are loaded, unless memory runs out.
     ensures loads { (tiles : Tiles) → IsTiledBy (files_of files.now) unit city.now.ring.corners tiles
         → IfErr result (λ refusal. refusal.fault ≡ ToolFault.NoMemory) }
-    ensures refuses { (fault : ToolFaultValue) → IsFaultOfLayer role (files_of files.now) unit city.now.ring.corners fault
+    ensures refuses { (fault : ToolFaultValue)
+        → IsFaultOfLayer role (files_of files.now) unit city.now.ring.corners fault
         → IsErrAnd result (λ refusal. (refusal.fault ≡ fault) ⊎ (refusal.fault ≡ ToolFault.NoMemory)) }
 {
     let records = layer_rings(heap, role, files.main.as_slice(), files.index_bytes(), unit)?;
@@ -95,14 +112,16 @@ pub(crate) fn read_told_by<'h, R: Threads + Sync, H: Allocator + Send + Sync, A:
     asked: Asked,
 ) -> Result<Layer<'h, H>, LayerRefusal<&'h H>>
     ensures layer { IfOk result (λ layer. IsTiledBy (files_of files.now) unit city.now.ring.corners layer) }
-    ensures fault { IfErr result (λ refusal. (IsFaultOfLayer role (files_of files.now) unit city.now.ring.corners refusal.fault
+    ensures fault { IfErr result (λ refusal. (IsFaultOfLayer role (files_of files.now) unit
+        city.now.ring.corners refusal.fault
         × (asked ≡ Asked.All → (of_city : Files) → IsCityOf of_city unit city.now.ring.corners
         → AreLinesBefore of_city (files_of files.now) unit refusal.fault (text_or_none refusal.lines)))
         ⊎ ((refusal.fault ≡ ToolFault.NoMemory) × (text_or_none refusal.lines ≡ []))) }
     // Files whose rings tile the city are loaded, unless memory runs out.
     ensures loads { (tiles : Tiles) → IsTiledBy (files_of files.now) unit city.now.ring.corners tiles
         → IfErr result (λ refusal. refusal.fault ≡ ToolFault.NoMemory) }
-    ensures refuses { (fault : ToolFaultValue) → IsFaultOfLayer role (files_of files.now) unit city.now.ring.corners fault
+    ensures refuses { (fault : ToolFaultValue)
+        → IsFaultOfLayer role (files_of files.now) unit city.now.ring.corners fault
         → IsErrAnd result (λ refusal. (refusal.fault ≡ fault) ⊎ (refusal.fault ≡ ToolFault.NoMemory)) }
 {
     let records = layer_rings(heap, role, files.main.as_slice(), files.index_bytes(), unit)?;
@@ -113,31 +132,19 @@ pub(crate) fn read_told_by<'h, R: Threads + Sync, H: Allocator + Send + Sync, A:
     }
 }
 
-/// What the fault of a layer's rings is to the user; the layer has this role in the run.
-fn told_of_load(role: Role, fault: LoadFault) -> ToolFault<'static>
-    ensures { result ≡ told_of_load_fault role fault }
-{
-    match fault {
-        LoadFault::NoMemory => ToolFault::NoMemory,
-        LoadFault::TooMany(_) | LoadFault::Ring(_, _) | LoadFault::Gap(_, _, _) => {
-            ToolFault::NoTiling(role, fault)
-        }
-    }
-}
-
 /// What the refusal of a layer's rings is to the user; the layer has this role in the run.
 fn refusal_of<A: Allocator, B: Allocator>(
     alloc: A,
     role: Role,
     refusal: &LoadRefusal<B>,
 ) -> LayerRefusal<A>
-    ensures { ((result.fault ≡ told_of_load_fault role refusal.now.first)
+    ensures { ((result.fault ≡ told_of_load role refusal.now.first)
         × (text_or_none result.lines ≡ fault_lines_of refusal.now.all))
         ⊎ ((result.fault ≡ ToolFault.NoMemory) × (text_or_none result.lines ≡ [])) }
 {
     match fault_lines(alloc, &refusal.all) {
         Ok(lines) => LayerRefusal {
-            fault: told_of_load(role, refusal.first),
+            fault: ToolFault::from((role, refusal.first)),
             lines: Some(lines),
         },
         Err(_) => LayerRefusal::from(ToolFault::NoMemory),

@@ -35,7 +35,8 @@ pub fn area<A: Allocator + Copy, W: ByteOut>(
 
     // Files that are no layer are refused by their first fault, and nothing is written.
     ensures file { (role : Role) (fault : FileFault) → IsErrOf result (ToolFault.File role fault)
-        → (role ≡ Role.File) × IsFirstFault source.now.main.items (index_of source.now) unit fault × (out.new ≡ out.old) }
+        → (role ≡ Role.File) × IsFirstFault source.now.main.items (index_of source.now) unit fault
+        × (out.new ≡ out.old) }
     ensures refuses { (fault : FileFault) → IsFirstFault source.now.main.items (index_of source.now) unit fault
         → IsErrAnd result (λ told. (told ≡ ToolFault.File Role.File fault) ⊎ (told ≡ ToolFault.NoMemory)) }
 

@@ -73,8 +73,8 @@ fn both<R: Threads, X: Send + Drop, Y: Send + Drop, F: FnOnce(X) -> Y + Copy + S
     )
 }
 
-/// How many of so many threads read the zones: by their share of the bytes, and at least one. What is left, and that is one
-/// at least, too, reads the parcels.
+/// How many of so many threads read the zones: by their share of the bytes, and at least one. What is left, and that is
+/// one at least, too, reads the parcels.
 fn threads_for_zones(workers: usize, parcels: usize, zones: usize) -> usize
     ensures { 2 ≤ workers → (0 < result) × (result < workers) }
 {
@@ -83,8 +83,8 @@ fn threads_for_zones(workers: usize, parcels: usize, zones: usize) -> usize
     share.max(1).min(workers.saturating_sub(1))
 }
 
-/// What is told of the parcels' files and of the zones' in a city, by so many threads at the most: the zones are read beside
-/// the parcels, or behind them where the system refuses the thread.
+/// What is told of the parcels' files and of the zones' in a city, by so many threads at the most: the zones are read
+/// beside the parcels, or behind them where the system refuses the thread.
 pub(crate) fn read_both<'h, R: Threads + Sync, H: Allocator + Send + Sync, A: Allocator + Sync>(
     rt: &R,
     workers: usize,

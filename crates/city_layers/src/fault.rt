@@ -50,7 +50,7 @@ pub enum ToolFault<'a> {
     NoThread(usize),
     /// K3: the window of this number, counted from 1, of the clerks' office was given no reader.
     NoWindow(usize),
-    /// A growth was refused.
+    /// An allocation failed.
     NoMemory,
 }
 

@@ -12,6 +12,18 @@ use geo_exact::{RawRing, Unit};
 use shp_files::{LayerFault, read_layer};
 use std::alloc::Allocator;
 
+// The layer that was not read has this role in the run.
+impl<'a> From<(Role, LayerFault)> for ToolFault<'a> {
+    ghost from_gives = { λ unread told. told ≡ layer_fault unread.0 unread.1 };
+
+    fn from(unread: (Role, LayerFault)) -> ToolFault<'a> {
+        match unread {
+            (role, LayerFault::File(fault)) => ToolFault::File(role, fault),
+            (_, LayerFault::NoMemory) => ToolFault::NoMemory,
+        }
+    }
+}
+
 /// The rings of a layer's main file, with its index where there is one. The layer has this role in the run.
 pub fn layer_rings<A: Allocator + Copy>(
     alloc: A,
@@ -31,16 +43,6 @@ pub fn layer_rings<A: Allocator + Copy>(
 {
     match read_layer(alloc, main, index, unit) {
         Ok(rings) => Ok(rings),
-        Err(fault) => Err(told(role, fault)),
-    }
-}
-
-/// What is told of a layer with this role that was not read.
-pub fn told(role: Role, fault: LayerFault) -> ToolFault<'static>
-    ensures { result ≡ layer_fault role fault }
-{
-    match fault {
-        LayerFault::File(fault) => ToolFault::File(role, fault),
-        LayerFault::NoMemory => ToolFault::NoMemory,
+        Err(fault) => Err(ToolFault::from((role, fault))),
     }
 }

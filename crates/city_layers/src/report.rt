@@ -10,7 +10,6 @@ ghost use Rattle.city_layers.specs.own.AreaTexts.{IsAreaReport};
 ghost use Rattle.city_layers.specs.own.LayerFaults.{IsLayerFault};
 
 use crate::fault::{Role, ToolFault};
-use crate::layers::told;
 use geo_exact::{RawRing, Unit, area2};
 use shp_files::{TakeEach, read_each};
 use std::alloc::{AllocError, Allocator};
@@ -59,7 +58,7 @@ pub fn area_text<A: Allocator + Copy>(
     let mut report = AreaText::new(alloc);
     match read_each(alloc, main, index, unit, &mut report) {
         Ok(()) => Ok(report.text),
-        Err(fault) => Err(told(Role::File, fault)),
+        Err(fault) => Err(ToolFault::from((Role::File, fault))),
     }
 }
 

@@ -13,7 +13,7 @@ use std::io;
 use std::io::{Input, Read};
 use std::rt::Files;
 
-/// The bytes of a layer's files.
+/// The bytes of a layer's files: of `parcels.shp`, and of `parcels.shx` beside it.
 #[derive(Debug)]
 pub struct Source<A: Allocator> {
     /// The main file.
@@ -48,7 +48,7 @@ pub enum PathFault {
     NotOpened,
     /// It can't be read, or is too long.
     NotRead,
-    /// A growth was refused.
+    /// An allocation failed.
     NoMemory,
 }
 

@@ -4,7 +4,7 @@ ghost use Rattle.std.specs.Prelude.{◌≡◌, ◌⊎◌, List, IfOk, IfErr, IsE
 ghost use Rattle.geo_exact.specs.declared.corner.Corner.{Corner};
 ghost use Rattle.fabric_core.specs.Rows.{Tiles};
 ghost use Rattle.city_layers.specs.declared.fault.ToolFault.{ToolFault as ToolFaultValue};
-ghost use Rattle.city_layers.specs.TilingFiles.{told_of_city as told_of_city_fault};
+ghost use Rattle.city_layers.specs.TilingFiles.{told_of_city};
 ghost use Rattle.city_layers.specs.TilingFiles.{files_of, IsCityOf, IsFaultOfCity, IsTiledBy, IsFaultOfLayer, AreTiles};
 ghost use Rattle.city_layers.specs.TilingFiles.{IsTilesFault};
 
@@ -17,6 +17,17 @@ use geo_exact::Unit;
 use std::alloc::Allocator;
 use std::thread::Threads;
 
+impl<'a> From<CityFault> for ToolFault<'a> {
+    ghost from_gives = { λ fault told. told ≡ told_of_city fault };
+
+    fn from(fault: CityFault) -> ToolFault<'a> {
+        match fault {
+            CityFault::NoMemory => ToolFault::NoMemory,
+            CityFault::Ring(_) | CityFault::Folded(_, _) => ToolFault::CityRing(fault),
+        }
+    }
+}
+
 /// The city of a city's files: their one ring.
 pub fn read_city<'h, H: Allocator, A: Allocator>(
     heap: &'h H,
@@ -24,7 +35,8 @@ pub fn read_city<'h, H: Allocator, A: Allocator>(
     unit: Unit,
 ) -> Result<City<'h, H>, ToolFault<'static>>
     ensures city { IfOk result (λ city. IsCityOf (files_of files.now) unit city.ring.corners) }
-    ensures fault { IfErr result (λ fault. IsFaultOfCity (files_of files.now) unit fault ⊎ (fault ≡ ToolFault.NoMemory)) }
+    ensures fault { IfErr result (λ fault. IsFaultOfCity (files_of files.now) unit fault
+        ⊎ (fault ≡ ToolFault.NoMemory)) }
     ensures reads { (corners : List Corner) → IsCityOf (files_of files.now) unit corners
         → MatchResult result (λ city. city.ring.corners ≡ corners) (λ fault. fault ≡ ToolFault.NoMemory) }
     ensures refuses { (fault : ToolFaultValue) → IsFaultOfCity (files_of files.now) unit fault
@@ -46,17 +58,7 @@ pub fn read_city<'h, H: Allocator, A: Allocator>(
     };
     match City::new(heap, ring) {
         Ok(city) => Ok(city),
-        Err(fault) => Err(told_of_city(fault)),
-    }
-}
-
-/// What the fault of a city's ring is to the user.
-fn told_of_city(fault: CityFault) -> ToolFault<'static>
-    ensures { result ≡ told_of_city_fault fault }
-{
-    match fault {
-        CityFault::NoMemory => ToolFault::NoMemory,
-        CityFault::Ring(_) | CityFault::Folded(_, _) => ToolFault::CityRing(fault),
+        Err(fault) => Err(ToolFault::from(fault)),
     }
 }
 
@@ -74,7 +76,8 @@ pub fn read_tiles<'h, H: Allocator, A: Allocator>(
     // Files whose rings tile the city are loaded, unless memory runs out.
     ensures loads { (tiles : Tiles) → IsTiledBy (files_of files.now) unit city.now.ring.corners tiles
         → IfErr result (λ fault. fault ≡ ToolFault.NoMemory) }
-    ensures refuses { (fault : ToolFaultValue) → IsFaultOfLayer role (files_of files.now) unit city.now.ring.corners fault
+    ensures refuses { (fault : ToolFaultValue)
+        → IsFaultOfLayer role (files_of files.now) unit city.now.ring.corners fault
         → IsErrAnd result (λ told. (told ≡ fault) ⊎ (told ≡ ToolFault.NoMemory)) }
 {
     match read_told(heap, city, role, files, unit, Asked::First) {
@@ -99,7 +102,8 @@ pub fn read_tiles_by<'h, R: Threads + Sync, H: Allocator + Send + Sync, A: Alloc
     // Files whose rings tile the city are loaded, unless memory runs out.
     ensures loads { (tiles : Tiles) → IsTiledBy (files_of files.now) unit city.now.ring.corners tiles
         → IfErr result (λ fault. fault ≡ ToolFault.NoMemory) }
-    ensures refuses { (fault : ToolFaultValue) → IsFaultOfLayer role (files_of files.now) unit city.now.ring.corners fault
+    ensures refuses { (fault : ToolFaultValue)
+        → IsFaultOfLayer role (files_of files.now) unit city.now.ring.corners fault
         → IsErrAnd result (λ told. (told ≡ fault) ⊎ (told ≡ ToolFault.NoMemory)) }
 {
     match read_told_by(rt, workers, heap, city, role, files, unit, Asked::First) {

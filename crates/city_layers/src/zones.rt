@@ -56,8 +56,8 @@ pub fn load_layers<'h, H: Allocator, A: Allocator>(
     Ok(Layers { parcels, zones })
 }
 
-/// As [`load_layers`], by so many threads at the most, as in [`load_tiles_by`](crate::load_tiles_by). From two on, the zones
-/// are read beside the parcels.
+/// As [`load_layers`], by so many threads at the most, as in [`load_tiles_by`](crate::load_tiles_by). From two on, the
+/// zones are read beside the parcels.
 ///
 /// # Errors
 ///

@@ -8,7 +8,8 @@ use Rattle.ring_edits.specs.declared.edit.Edit.{Edit}
 use Rattle.entry_cards.specs.Cards.{IsClerk}
 use Rattle.fabric_core.specs.Journal.{JournalEntry, Book, replay}
 use Rattle.fabric_core.specs.EditResults.{IsLawful}
-use Rattle.desk_lock.specs.Offices.{Origin, OfficeId, origin_of, CardState, ReceiptState, IsSheetOf, Agrees, HasMet, behind, of_clerk, fresh_cards}
+use Rattle.desk_lock.specs.Offices.{Origin, OfficeId, origin_of, CardState, ReceiptState, IsSheetOf, Agrees, HasMet}
+use Rattle.desk_lock.specs.Offices.{behind, of_clerk, fresh_cards}
 use Rattle.clerk_runs.specs.ClerkRuns.{Run, AreTold, AreEachTold, register_of}
 use Rattle.clerk_runs.specs.own.Working.{run_at, IsWorked, AreMadeIn}
 use Rattle.clerk_runs.proofs.Submitted.{behind_none}

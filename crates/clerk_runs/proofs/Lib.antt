@@ -5,3 +5,4 @@ pub mod Windows
 pub mod Places
 pub mod Taken
 pub mod FewClerks
+pub mod Crossing

@@ -12,8 +12,8 @@ use Rattle.fabric_core.specs.declared.refusal.Refusal.{Refusal}
 use Rattle.fabric_core.specs.declared.refusal.Refusal.TheVariants.{NoMemory}
 use Rattle.fabric_core.specs.Journal.{JournalEntry, replay}
 use Rattle.fabric_core.specs.Refusals.{IsRefusal}
-use Rattle.desk_lock.specs.Offices.{OfficeId, CardState, ReceiptState, EndsWith, IsRefusedWhenMet, IsSometime, behind, of_clerk, journal_met}
-use Rattle.desk_lock.specs.Offices.{with_met}
+use Rattle.desk_lock.specs.Offices.{OfficeId, CardState, ReceiptState, EndsWith, IsRefusedWhenMet, IsSometime, behind}
+use Rattle.desk_lock.specs.Offices.{of_clerk, journal_met, with_met}
 use Rattle.clerk_runs.specs.ClerkLines.{ok_line, refused_line}
 use Rattle.clerk_runs.specs.ClerkRuns.{Run, IsRefusalDue, AreTold}
 use Rattle.clerk_runs.specs.own.Working.{run_at, Tells, IsAccepted, IsRefused, HasSaid}
@@ -75,8 +75,8 @@ module _ {A : Type 0} where
       subst (λ k. HaveSaid run met k all left made lines receipts) same h
 
   -- none is told
-  pub none_said : (run : Run) (met : List (JournalEntry A)) (clerk : ℕ) (all : List (ℕ × Edit A)) (made : List (JournalEntry A)) (lines : List ℕ)
-      (receipts : List (ReceiptState A)) → made ≡ [] → lines ≡ [] → receipts ≡ []
+  pub none_said : (run : Run) (met : List (JournalEntry A)) (clerk : ℕ) (all : List (ℕ × Edit A))
+      (made : List (JournalEntry A)) (lines : List ℕ) (receipts : List (ReceiptState A)) → made ≡ [] → lines ≡ [] → receipts ≡ []
       → HaveSaid run met clerk all all made lines receipts
   none_said run met clerk all made lines receipts none no_lines no_receipts = rw (none, no_lines, no_receipts) (record {
     adds = λ whole begins entries text told. told_from_nothing run whole clerk [] met all entries text told;
@@ -95,7 +95,8 @@ module _ {A : Type 0} where
         let line = ok_line card.clerk told.0 is.receipt.entry.number in
         let more : AreTold run whole card.clerk (card.made ++ is.receipt.entry ∷ []) after.met left entries text = rw is.made at rest in
         rw (is.made, is.line, append_assoc card.made (is.receipt.entry ∷ []) entries, append_assoc lines line text)
-        (h.adds whole (begins_whole card.met after.met whole is.met begins) (is.receipt.entry ∷ entries) (line ++ text) (after.met, is.met, begins, inl (is.receipt.entry, entries, text, refl, is.has_edit, is.ends, refl, more)));
+        (h.adds whole (begins_whole card.met after.met whole is.met begins) (is.receipt.entry ∷ entries) (line ++ text)
+        (after.met, is.met, begins, inl (is.receipt.entry, entries, text, refl, is.has_edit, is.ends, refl, more)));
     are_all = is.made
         ∙ (ap (λ made. made ++ is.receipt.entry ∷ []) h.are_all
         ∙ (sym (map-append (λ (receipt : ReceiptState A). receipt.entry) receipts (is.receipt ∷ []))

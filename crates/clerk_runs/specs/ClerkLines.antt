@@ -1,9 +1,10 @@
 -- The lines that report clerks' edits (this product's own). Numbers are in decimal.
 use Rattle.std.specs.Prelude.{ℕ, List, ◌++◌, codes, decimal}
 use Rattle.fabric_core.specs.declared.refusal.Refusal.{Refusal}
-use Rattle.fabric_core.specs.declared.refusal.Refusal.TheVariants.{Unknown, Retired, BadPath, NotNeighbours, SharedTwice, Ring}
-use Rattle.fabric_core.specs.declared.refusal.Refusal.TheVariants.{NoSuchEdge, NotOnEdge, JournalFull, TooMany, NoSuchCorner}
-use Rattle.fabric_core.specs.declared.refusal.Refusal.TheVariants.{NotFlat, NoMemory}
+use Rattle.fabric_core.specs.declared.refusal.Refusal.TheVariants.{Unknown, Retired, BadPath, NotNeighbours}
+use Rattle.fabric_core.specs.declared.refusal.Refusal.TheVariants.{SharedTwice, Ring, NoSuchEdge, NotOnEdge}
+use Rattle.fabric_core.specs.declared.refusal.Refusal.TheVariants.{JournalFull, TooMany, NoSuchCorner, NotFlat}
+use Rattle.fabric_core.specs.declared.refusal.Refusal.TheVariants.{NoMemory}
 use Rattle.text_pieces.specs.RingFaultText.{ring_fault_text}
 
 -- `clerk K line L `

@@ -1,5 +1,5 @@
--- The edits of several clerks, made on one fabric by all of them at the same time: what they lead to, and the lines that report each (this
--- product's own).
+-- The edits of several clerks, made on one fabric by all of them at the same time: what they lead to, and the lines
+-- that report each (this product's own).
 use Rattle.std.specs.Prelude.{◌≡◌, ◌⊎◌, ℕ, ◌+◌, List, [], ◌∷◌, ◌++◌, length}
 use Rattle.std.specs.List.{AllZip}
 use mathlib.Core.List.{IsPrefix}
@@ -45,23 +45,27 @@ module _ {A : Type 0} where
     pub of_clerks : AreOfClerks run.clerks journal
 
   -- the refusal is due after such a list, in which the clerk's entries are those that were accepted of the clerk before
-  pub record IsRefusalDue (run : Run) (journal : List (JournalEntry A)) (clerk : ℕ) (made : List (JournalEntry A)) (edit : Edit A)
-      (refusal : Refusal) : Type 0 where
+  pub record IsRefusalDue (run : Run) (journal : List (JournalEntry A)) (clerk : ℕ) (made : List (JournalEntry A))
+      (edit : Edit A) (refusal : Refusal) : Type 0 where
     pub is_journal : IsJournal run journal
     pub has_made : of_clerk clerk journal ≡ made
     pub is_refusal : IsRefusal (replay run.opening journal) journal edit refusal
 
-  -- a clerk's edits, each behind its line's number, are reported in order, and judged in that order: each after a beginning of the run's
-  -- journal, `whole`, that begins with the one after which the edit before was judged, `met`. It is `ok` under the number of the next of the
-  -- clerk's entries, which has the edit and ends that beginning, or `refused` for a reason that was due after it, or because memory ran
-  -- out; the clerk has no other entries, and `made` are those from before
-  abbrev pub AreTold : Run → List (JournalEntry A) → ℕ → List (JournalEntry A) → List (JournalEntry A) → List (ℕ × Edit A)
+  -- a clerk's edits, each behind its line's number, are reported in order, and judged in that order: each after a
+  -- beginning of the run's journal, `whole`, that begins with the one after which the edit before was judged, `met`. It
+  -- is `ok` under the number of the next of the clerk's entries, which has the edit and ends that beginning, or
+  -- `refused` for a reason that was due after it, or because memory ran out; the clerk has no other entries, and `made`
+  -- are those from before
+  abbrev pub AreTold : Run → List (JournalEntry A) → ℕ → List (JournalEntry A) → List (JournalEntry A)
+      → List (ℕ × Edit A)
       → List (JournalEntry A) → List ℕ → Type 0
   AreTold run whole clerk made met [] entries text = (entries ≡ []) × (text ≡ [])
-  AreTold run whole clerk made met (told ∷ rest) entries text = (now : List (JournalEntry A)) × IsPrefix met now × IsPrefix now whole
+  AreTold run whole clerk made met (told ∷ rest) entries text =
+      (now : List (JournalEntry A)) × IsPrefix met now × IsPrefix now whole
       × (((entry : JournalEntry A) × (others : List (JournalEntry A)) × (more : List ℕ) × (entries ≡ entry ∷ others)
       × (entry.edit ≡ told.1) × EndsWith entry entry.number now
-      × (text ≡ ok_line clerk told.0 entry.number ++ more) × AreTold run whole clerk (made ++ entry ∷ []) now rest others more)
+      × (text ≡ ok_line clerk told.0 entry.number ++ more)
+      × AreTold run whole clerk (made ++ entry ∷ []) now rest others more)
       ⊎ ((refusal : Refusal) × (more : List ℕ) × (IsRefusalDue run now clerk made told.1 refusal ⊎ (refusal ≡ NoMemory))
       × (text ≡ refused_line clerk told.0 refusal ++ more) × AreTold run whole clerk made now rest entries more))
 
@@ -70,15 +74,17 @@ module _ {A : Type 0} where
   abbrev pub AreEachTold : Run → ℕ → List (List (ℕ × Edit A)) → List (JournalEntry A) → List ℕ → Type 0
   AreEachTold run clerk [] journal text = text ≡ []
   AreEachTold run clerk (edits ∷ others) journal text = (lines : List ℕ) × (more : List ℕ) × (text ≡ lines ++ more)
-      × AreTold run journal clerk [] [] edits (of_clerk clerk journal) lines × AreEachTold run (clerk + 1) others journal more
+      × AreTold run journal clerk [] [] edits (of_clerk clerk journal) lines
+      × AreEachTold run (clerk + 1) others journal more
 
   -- the run of these clerks' edits on a layer
   abbrev pub run_of : Tiles → List (List (ℕ × Edit A)) → Run
   run_of tiles clerks = record { clerks = length clerks; opening = opening_state tiles.rows tiles.refined }
 
-  -- the edits of the clerks, made on a layer, lead to this register and give these lines: its journal is lawful, has entries of the clerks
-  -- alone, and leads to the parcels, which tile the layer's city; and each clerk's lines report the clerk's edits
-  pub record AreMade (tiles : Tiles) (clerks : List (List (ℕ × Edit A))) (after : Register A) (lines : List ℕ) : Type 0 where
+  -- the clerks' edits, made on a layer, lead to this register and give these lines: its journal is lawful, has entries
+  -- of the clerks alone, and leads to parcels that tile the city; and each clerk's lines report that clerk's edits
+  pub record AreMade (tiles : Tiles) (clerks : List (List (ℕ × Edit A))) (after : Register A)
+      (lines : List ℕ) : Type 0 where
     pub is_journal : IsJournal (run_of tiles clerks) after.journal
     pub leads : after.now ≡ replay (run_of tiles clerks).opening after.journal
     pub is_tiling : IsTiling after.now.rows tiles.city

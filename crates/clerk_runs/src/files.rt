@@ -32,7 +32,7 @@ pub enum FilesFault {
     /// L1: the file of this clerk, from 1, is the first that has a bad line, and this line, from 1,
     /// is its first that is neither skipped nor an edit.
     BadLine(u32, u64),
-    /// An allocation was refused.
+    /// An allocation failed.
     NoMemory,
 }
 

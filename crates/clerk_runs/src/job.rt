@@ -1,4 +1,4 @@
-//! A clerk's job at an office: his edits, submitted line by line.
+//! A clerk's job at an office: their edits, submitted line by line.
 
 ghost use Rattle.std.specs.Prelude.{◌≡◌, ◌⊎◌, [], OnOk};
 ghost use Rattle.clerk_runs.specs.own.Working.{run_at, IsAccepted, IsRefused, HasSaid, IsWorked};
@@ -18,7 +18,7 @@ pub(crate) struct Counter<'r, 'h, H: Allocator, J: Naming<H>, R: Wait> {
     ghost opened: { J.office.origin.journal ≡ [] },
 }
 
-/// A clerk's job: his card and his edits, and what comes of them: the line of each, and the receipt
+/// A clerk's job: their card and their edits, and what comes of them: the line of each, and the receipt
 /// of each that was accepted.
 #[derive(Drop)]
 pub(crate) struct ClerkJob<'h, H: Allocator, J: Naming<H>> {
@@ -76,7 +76,8 @@ fn submit_all<'r, 'h, H: Allocator, J: Naming<H>, R: Wait>(
     requires no_receipts { receipts.old.items ≡ [] }
     ensures clerk { card.new.clerk ≡ card.old.clerk }
     ensures said { OnOk result (card.old.made ≡ []
-        → HasSaid (run_at J.office) card.new.met card.old.clerk edits.now card.new.made lines.new.items receipts.new.items) }
+        → HasSaid (run_at J.office) card.new.met card.old.clerk edits.now card.new.made lines.new.items
+        receipts.new.items) }
 {
     for told in edits {
         submit_edit(counter, card, told, lines, receipts)?;
@@ -95,7 +96,8 @@ fn submit_edit<'r, 'h, H: Allocator, J: Naming<H>, R: Wait>(
     ensures clerk { card.new.clerk ≡ card.old.clerk }
     ensures said { OnOk result
         (IsAccepted card.old told.now card.new lines.old.items lines.new.items receipts.old.items receipts.new.items
-        ⊎ IsRefused (run_at J.office) card.old told.now card.new lines.old.items lines.new.items receipts.old.items receipts.new.items) }
+        ⊎ IsRefused (run_at J.office) card.old told.now card.new lines.old.items lines.new.items receipts.old.items
+        receipts.new.items) }
 {
     let clerk = card.clerk();
     match counter.office.submit(counter.rt, card, &told.1) {

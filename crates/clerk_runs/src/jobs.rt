@@ -6,11 +6,11 @@ ghost use Rattle.clerk_runs.specs.own.Windows.{IsLearnt};
 
 use crate::files::ClerkEdits;
 use crate::job::ClerkJob;
-use crate::place::learn_all;
+use crate::locating::learn_all;
 use desk_lock::{Card, Naming, Window};
 use std::alloc::{AllocError, Allocator};
 
-/// The jobs of clerks, each of his card and his edits.
+/// The jobs of clerks, each of their card and their edits.
 pub(crate) fn jobs_of<'h, H: Allocator, J: Naming<H>>(
     heap: &'h H,
     cards: Vec<Card<'h, H, J>, &'h H>,

@@ -16,9 +16,10 @@ pub fn without_clerks_nothing_changes<A: Allocator>()
         → (after ≡ opened tiles) × (lines ≡ []) }
 {}
 
-/// Where one clerk edits, what he is refused is due after the entries that were accepted of him
+/// Where one clerk edits, what they are refused is due after the entries that were accepted of them
 /// before, and nothing else.
 pub fn with_one_clerk_a_refusal_is_due_after_his_entries<A: Allocator>()
-    ensures { (run : Run) (journal made : List (JournalEntry A)) (edit : EditValue A) (refusal : RefusalValue) → run.clerks ≡ 1
+    ensures { (run : Run) (journal made : List (JournalEntry A)) (edit : EditValue A) (refusal : RefusalValue)
+        → run.clerks ≡ 1
         → IsRefusalDue run journal 1 made edit refusal → IsRefusal (replay run.opening made) made edit refusal }
 {}

@@ -1,5 +1,5 @@
 //! The files of clerks' edits, which all clerks make at the same time on one fabric, each in a
-//! thread of his own at one office.
+//! thread of their own at one office.
 #![tactic(auto)]
 
 mod files;
@@ -7,7 +7,7 @@ mod job;
 mod jobs;
 mod laws;
 mod lines;
-mod place;
+mod locating;
 mod place_texts;
 mod runs;
 

@@ -1,6 +1,6 @@
 //! Runs of clerks' edits.
 
-ghost use Rattle.std.specs.Prelude.{◌≡◌, ◌⊎◌, ℕ, ◌<◌, ◌≤◌, [], length, IfOk, IfErr};
+ghost use Rattle.std.specs.Prelude.{◌≡◌, ◌⊎◌, ◌<◌, ◌≤◌, [], length, IfOk, IfErr};
 ghost use Rattle.desk_lock.specs.Offices.{origin_of};
 ghost use Rattle.desk_lock.specs.declared.opening.TheConstants.{MOST_PLACES};
 ghost use Rattle.fabric_core.specs.Journal.{opening_state};
@@ -12,7 +12,7 @@ ghost use Rattle.clerk_runs.specs.own.Working.{AreMadeIn};
 use crate::files::ClerkEdits;
 use crate::job::Counter;
 use crate::jobs::{Done, jobs_of, take_all_in};
-use crate::place::places_of;
+use crate::locating::locate_all;
 use desk_lock::{Name, Naming, Office, OpenFault};
 use fabric_core::{At, Fabric, Layer, Sheet};
 use geo_exact::Corner;
@@ -38,7 +38,7 @@ pub struct Edited<'h, H: Allocator> {
 pub enum RunFault {
     /// K3: the office's window of this number, from 1, was given no reader.
     NoWindow(usize),
-    /// An allocation was refused.
+    /// An allocation failed.
     NoMemory,
 }
 
@@ -58,9 +58,9 @@ impl<T: Drop> From<AllocFailed<T>> for RunFault {
     }
 }
 
-/// Opens an office with one window for the clerks, each of whom makes his edits line by line in a
-/// thread of his own, or in this thread, once the others are joined, where the system refuses one.
-/// An edit that is refused, also because memory ran out, changes nothing, and the clerk goes on with his
+/// Opens an office with one window for the clerks, each of whom makes their edits line by line in a
+/// thread of their own, or in this thread, once the others are joined, where the system refuses one.
+/// An edit that is refused, also because memory ran out, changes nothing, and the clerk goes on with the
 /// next. Where the corners lie is asked at the window, once it learnt the receipts of all clerks,
 /// or of the sheet that is drawn then where a receipt was not published.
 ///
@@ -76,14 +76,16 @@ pub fn edit_by_clerks<'h, R: Threads + Wait + Sync, H: Allocator + Send + Sync>(
 ) -> Result<Edited<'h, H>, RunFault>
     requires some { 0 < length clerks.items }
     requires few { length clerks.items ≤ MOST_PLACES }
-    ensures made { IfOk result (λ edited. AreMade layer.entry clerks.entry.items (register_of edited.sheet) edited.lines.items) }
-    ensures opening { IfOk result (λ edited. edited.sheet.opening ≡ opening_state layer.entry.rows layer.entry.refined) }
+    ensures made { IfOk result (λ edited. AreMade layer.entry clerks.entry.items (register_of edited.sheet)
+        edited.lines.items) }
+    ensures opening { IfOk result (λ edited. edited.sheet.opening
+        ≡ opening_state layer.entry.rows layer.entry.refined) }
     ensures city { IfOk result (λ edited. edited.sheet.city ≡ layer.entry.city) }
     ensures places { IfOk result (λ edited. AreLocated edited.sheet.now.rows corners.now edited.places.items) }
     ensures fault { IfErr result (λ fault. (fault ≡ NoWindow 1) ⊎ (fault ≡ NoMemory)) }
 {
     let Ok(fabric) = Fabric::open(layer) else {
-        return Err(RunFault::NoMemory);
+        unreachable!()
     };
     let name = Name::new(heap)?;
     edit_at_office::<R, H, Brand>(rt, heap, name, fabric, clerks, corners)
@@ -104,11 +106,13 @@ fn edit_at_office<
     corners: &[Corner],
 ) -> Result<Edited<'h, H>, RunFault>
     requires book { name.book ≡ J.book }
-    requires office { J.office ≡ record { cards = name.cards; clerks = length clerks.items; origin = origin_of fabric } }
+    requires office { J.office
+        ≡ record { cards = name.cards; clerks = length clerks.items; origin = origin_of fabric } }
     requires some { 0 < length clerks.items }
     requires few { length clerks.items ≤ MOST_PLACES }
     requires fresh { fabric.journal ≡ [] }
-    ensures made { IfOk result (λ edited. AreMadeIn (record { clerks = length clerks.entry.items; opening = fabric.entry.opening })
+    ensures made { IfOk result
+        (λ edited. AreMadeIn (record { clerks = length clerks.entry.items; opening = fabric.entry.opening })
         clerks.entry.items (register_of edited.sheet) edited.lines.items) }
     ensures opening { IfOk result (λ edited. edited.sheet.opening ≡ fabric.entry.opening) }
     ensures city { IfOk result (λ edited. edited.sheet.city ≡ fabric.entry.city) }
@@ -146,7 +150,7 @@ fn edit_at_office<
     } = take_all_in(heap, jobs, &mut window)?;
     let sheet = counter.office.sheet(rt, cards.as_mut_slice())?;
     sheet.use_invariant();
-    let places = places_of(heap, &mut window, published, &sheet, corners)?;
+    let places = locate_all(heap, &mut window, published, &sheet, corners)?;
     let Counter { office, .. } = counter;
     let _ = office.close(rt, cards);
     Ok(Edited {

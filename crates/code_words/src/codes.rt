@@ -1,5 +1,5 @@
-//! The codes, in the order of the pages. They stand in groups, each behind a call of its own: a list of all is more than the
-//! prover takes in one declaration.
+//! The codes, in the order of the pages. They stand in groups, each behind a call of its own: a list of all is more
+//! than the prover takes in one declaration.
 
 use crate::words::CodeWords;
 
@@ -254,7 +254,8 @@ const SYSTEM: [CodeWords; 6] = [
     },
     CodeWords {
         code: "S6",
-        meaning: "a table or a projection stands beside the layer that would be written, and would name the wrong parcels",
+        meaning: "a table or a projection stands beside the layer that would be written, and would name the wrong \
+                  parcels",
         cause: "an export over an older layer",
         remedy: "write under another BASE, or remove both by --force",
     },
@@ -430,7 +431,7 @@ const LATER_EDITS: [CodeWords; 6] = [
     },
     CodeWords {
         code: "E12",
-        meaning: "a parcel, or the outline of the city, bends at this corner",
+        meaning: "a parcel bends at this corner",
         cause: "a corner that is not on a straight line in every ring",
         remedy: "move the border first",
     },

@@ -89,7 +89,9 @@ row_step : (w q H E D M k : ℤ)
     ≡ row_sum w q H E D M (k +ℤ pos 1) -ℤ row_sum w q H E D M k
 row_step w q H E D M k =
     same_by (w ∷ q ∷ H ∷ E ∷ D ∷ M ∷ k ∷ [])
-    (mul (var 0) (sub (mul (var 1) (mul (var 0) (add (mul (mul (lit (pos 2)) (var 2)) (var 3)) (mul (add (mul (lit (pos 2)) (var 6)) (lit (pos 1))) (var 4)))))
+    (mul (var 0)
+    (sub (mul (var 1) (mul (var 0) (add (mul (mul (lit (pos 2)) (var 2)) (var 3))
+    (mul (add (mul (lit (pos 2)) (var 6)) (lit (pos 1))) (var 4)))))
     (var 5)))
     (sub (row_expr (var 0) (var 1) (var 2) (var 3) (var 4) (var 5) (add (var 6) (lit (pos 1))))
     (row_expr (var 0) (var 1) (var 2) (var 3) (var 4) (var 5) (var 6)))
@@ -104,11 +106,13 @@ edge_steps : (grid : Grid) (e : Edge) (q M : ℤ)
     (λ k. weight grid.rows e k *ℤ (columns_left grid.rows q e k -ℤ M))
 unfolding columns_left
 edge_steps grid e q M = record {
-  below = λ k h. weight_times_nothing (weight grid.rows e k) (columns_left grid.rows q e k -ℤ M) (weight_below grid.rows e k grid.rows_positive h);
+  below = λ k h. weight_times_nothing (weight grid.rows e k) (columns_left grid.rows q e k -ℤ M)
+      (weight_below grid.rows e k grid.rows_positive h);
   step = λ k h i.
       ap (λ x. x *ℤ (columns_left grid.rows q e k -ℤ M)) (weight_within grid.rows e k grid.rows_positive h i)
       ∙ row_step (way e) q grid.rows (e.from.x *ℤ e.to.y -ℤ e.to.x *ℤ e.from.y) (e.to.x -ℤ e.from.x) M k;
-  above = λ k h. weight_times_nothing (weight grid.rows e k) (columns_left grid.rows q e k -ℤ M) (weight_above grid.rows e k grid.rows_positive h);
+  above = λ k h. weight_times_nothing (weight grid.rows e k) (columns_left grid.rows q e k -ℤ M)
+      (weight_above grid.rows e k grid.rows_positive h);
 }
 
 up_value : (w q H W M ax ay bx by : ℤ) → w ≡ pos 1 → W ≡ pos 2 *ℤ H *ℤ (by -ℤ ay) *ℤ q
@@ -122,7 +126,8 @@ up_value w q H W M ax ay bx by ew e =
     ∙ same_by (q ∷ H ∷ M ∷ ax ∷ ay ∷ bx ∷ by ∷ [])
     (mul (lit (pos 2)) (sub (row_expr (lit (pos 1)) (var 0) (var 1) cross run (var 2) (mul (var 6) (var 1)))
     (row_expr (lit (pos 1)) (var 0) (var 1) cross run (var 2) (mul (var 4) (var 1)))))
-    (sub (mul (mul (mul (mul (mul (lit (pos 2)) (var 1)) (sub (var 6) (var 4))) (var 0)) (var 1)) (mul (sub (var 6) (var 4)) (add (var 3) (var 5))))
+    (sub (mul (mul (mul (mul (mul (lit (pos 2)) (var 1)) (sub (var 6) (var 4))) (var 0)) (var 1))
+    (mul (sub (var 6) (var 4)) (add (var 3) (var 5))))
     (mul (mul (mul (lit (pos 2)) (var 2)) (var 1)) (sub (var 6) (var 4))))
     refl
     ∙ ap (λ x. x *ℤ H *ℤ ((by -ℤ ay) *ℤ (ax +ℤ bx)) -ℤ pos 2 *ℤ M *ℤ H *ℤ (by -ℤ ay)) (sym e)
@@ -138,7 +143,8 @@ down_value w q H W M ax ay bx by ew e =
     ∙ same_by (q ∷ H ∷ M ∷ ax ∷ ay ∷ bx ∷ by ∷ [])
     (mul (lit (pos 2)) (sub (row_expr (lit (negsuc 0)) (var 0) (var 1) cross run (var 2) (mul (var 4) (var 1)))
     (row_expr (lit (negsuc 0)) (var 0) (var 1) cross run (var 2) (mul (var 6) (var 1)))))
-    (sub (mul (mul (mul (mul (mul (lit (pos 2)) (var 1)) (neg (sub (var 6) (var 4)))) (var 0)) (var 1)) (mul (sub (var 6) (var 4)) (add (var 3) (var 5))))
+    (sub (mul (mul (mul (mul (mul (lit (pos 2)) (var 1)) (neg (sub (var 6) (var 4)))) (var 0)) (var 1))
+    (mul (sub (var 6) (var 4)) (add (var 3) (var 5))))
     (mul (mul (mul (lit (pos 2)) (var 2)) (var 1)) (sub (var 6) (var 4))))
     refl
     ∙ ap (λ x. x *ℤ H *ℤ ((by -ℤ ay) *ℤ (ax +ℤ bx)) -ℤ pos 2 *ℤ M *ℤ H *ℤ (by -ℤ ay)) (sym e)
@@ -182,7 +188,8 @@ edge_rows grid e q M n h wide =
     (share_of grid e q h (λ z. absurd (omega (arith, ints, z, u))) ∙ ap (λ x. pos 2 *ℤ grid.rows *ℤ x *ℤ q) rise_is))
     (λ u. let same : upper e ≡ lower e = omega (arith, ints) in
     let flat : e.to.y -ℤ e.from.y ≡ pos 0 = omega (arith, ints) in
-    ends (way e) q grid.rows (e.from.x *ℤ e.to.y -ℤ e.to.x *ℤ e.from.y) (e.to.x -ℤ e.from.x) M (upper e) (lower e) (lower e) (lower e) same refl
+    ends (way e) q grid.rows (e.from.x *ℤ e.to.y -ℤ e.to.x *ℤ e.from.y) (e.to.x -ℤ e.from.x) M (upper e) (lower e) (lower e)
+    (lower e) same refl
     ∙ none (row_sum (way e) q grid.rows (e.from.x *ℤ e.to.y -ℤ e.to.x *ℤ e.from.y) (e.to.x -ℤ e.from.x) M (lower e *ℤ grid.rows))
     (grid.columns *ℤ grid.rows) (e.from.x +ℤ e.to.x) (pos 2 *ℤ M *ℤ grid.rows)
     ∙ sym (ap (λ y. grid.columns *ℤ grid.rows *ℤ (y *ℤ (e.from.x +ℤ e.to.x)) -ℤ pos 2 *ℤ M *ℤ grid.rows *ℤ y) flat)))
@@ -286,13 +293,17 @@ area_is ring grid share m n h wide =
     (λ k. sum_around m (λ j. sum_over (λ e. lone_cell grid share m e k j) (edges ring)))
     (λ k. around-same m (λ j. winding (middle grid j k) ring) (λ j. sum_over (λ e. lone_cell grid share m e k j) (edges ring))
     (λ j. crossings_are grid share j k (edges ring) h
-    ∙ sym (lone_sum (λ e. weight grid.rows e k) (λ e. before j (columns_left grid.rows (share e) e k)) (before j (neg_ℤ (pos m))) (edges ring)
-    ∙ ap (λ x. sum_over (λ e. weight grid.rows e k *ℤ before j (columns_left grid.rows (share e) e k)) (edges ring) -ℤ x *ℤ before j (neg_ℤ (pos m)))
+    ∙ sym (lone_sum (λ e. weight grid.rows e k) (λ e. before j (columns_left grid.rows (share e) e k))
+    (before j (neg_ℤ (pos m))) (edges ring)
+    ∙ ap (λ x. sum_over (λ e. weight grid.rows e k *ℤ before j (columns_left grid.rows (share e) e k)) (edges ring)
+    -ℤ x *ℤ before j (neg_ℤ (pos m)))
     (balanced grid.rows k ring)
-    ∙ kept (sum_over (λ e. weight grid.rows e k *ℤ before j (columns_left grid.rows (share e) e k)) (edges ring)) (before j (neg_ℤ (pos m))))))
+    ∙ kept (sum_over (λ e. weight grid.rows e k *ℤ before j (columns_left grid.rows (share e) e k)) (edges ring))
+    (before j (neg_ℤ (pos m))))))
     ∙ sym (around-both m n (λ e k j. lone_cell grid share m e k j) (edges ring)))
     ∙ ring_cells grid share m n (edges ring) h wide
-    ∙ ap (λ x. grid.columns *ℤ grid.rows *ℤ x -ℤ pos 2 *ℤ neg_ℤ (pos m) *ℤ grid.rows *ℤ sum_over (λ e. e.to.y -ℤ e.from.y) (edges ring)) (runs_are ring)
+    ∙ ap (λ x. grid.columns *ℤ grid.rows *ℤ x -ℤ pos 2 *ℤ neg_ℤ (pos m) *ℤ grid.rows *ℤ sum_over (λ e. e.to.y -ℤ e.from.y) (edges ring))
+    (runs_are ring)
     ∙ ap (λ x. grid.columns *ℤ grid.rows *ℤ area2 ring -ℤ pos 2 *ℤ neg_ℤ (pos m) *ℤ grid.rows *ℤ x) (rises_are ring)
     ∙ kept' (grid.columns *ℤ grid.rows *ℤ area2 ring) (pos 2 *ℤ neg_ℤ (pos m) *ℤ grid.rows)
   where

@@ -78,7 +78,8 @@ not_negative r s hr hs =
     not_neg_of_mul (grid.columns *ℤ grid.rows) (common_area2 r s).n
     (mul_pos grid.columns grid.rows (columns_positive grid) grid.rows_positive)
     (subst (λ x. pos 0 ≤ℤ x) (sym at.value ∙ turned (common_area2 r s).n (grid.columns *ℤ grid.rows))
-    (mul_not_neg (pos 2 *ℤ cells g.0 g.1 g.2 r s) (common_area2 r s).d (omega (arith, ints, count)) (le_of_lt (pos 0) (common_area2 r s).d at.positive)))
+    (mul_not_neg (pos 2 *ℤ cells g.0 g.1 g.2 r s) (common_area2 r s).d (omega (arith, ints, count))
+    (le_of_lt (pos 0) (common_area2 r s).d at.positive)))
   where
     turned : (u v : ℤ) → u *ℤ v ≡ v *ℤ u
     turned u v = omega (arith, ints)
@@ -134,7 +135,8 @@ cells_more grid m n r part parts =
     (λ k. sym (around-plus m (λ j. winding (middle grid j k) r *ℤ winding (middle grid j k) part)
     (λ j. winding (middle grid j k) r *ℤ sum_of_windings (middle grid j k) parts))
     ∙ around-same m
-    (λ j. winding (middle grid j k) r *ℤ winding (middle grid j k) part +ℤ winding (middle grid j k) r *ℤ sum_of_windings (middle grid j k) parts)
+    (λ j. winding (middle grid j k) r *ℤ winding (middle grid j k) part
+    +ℤ winding (middle grid j k) r *ℤ sum_of_windings (middle grid j k) parts)
     (λ j. winding (middle grid j k) r *ℤ sum_of_windings (middle grid j k) (part ∷ parts))
     (λ j. together (winding (middle grid j k) r) (winding (middle grid j k) part) (sum_of_windings (middle grid j k) parts))))
   where
@@ -149,7 +151,8 @@ unfolding cells_with
 no_cells grid m n r =
     sym (ap (λ x. pos 2 *ℤ x)
     (around-same n (λ k. sum_around m (λ j. winding (middle grid j k) r *ℤ pos 0)) (λ k. pos 0)
-    (λ k. around-same m (λ j. winding (middle grid j k) r *ℤ pos 0) (λ j. pos 0) (λ j. nothing (winding (middle grid j k) r)) ∙ around-nothing m)
+    (λ k. around-same m (λ j. winding (middle grid j k) r *ℤ pos 0) (λ j. pos 0) (λ j. nothing (winding (middle grid j k) r))
+    ∙ around-nothing m)
     ∙ around-nothing n))
   where
     nothing : (u : ℤ) → u *ℤ pos 0 ≡ pos 0
@@ -212,7 +215,8 @@ additive r ring parts h =
 -- ---- a ring that is covered by another
 all_of : (u v : ℤ) → (pos 0 ≤ℤ u) × (u ≤ℤ pos 1) → (pos 1 ≤ℤ u → v ≡ pos 1) → u *ℤ v ≡ u
 all_of u v h k = by_lt_z u (pos 1)
-    (λ p. let e : u ≡ pos 0 = omega (arith, ints, p, h.0) in ap (λ x. x *ℤ v) e ∙ same_by (v ∷ []) (mul (lit (pos 0)) (var 0)) (lit (pos 0)) refl ∙ sym e)
+    (λ p. let e : u ≡ pos 0 = omega (arith, ints, p, h.0) in ap (λ x. x *ℤ v) e
+    ∙ same_by (v ∷ []) (mul (lit (pos 0)) (var 0)) (lit (pos 0)) refl ∙ sym e)
     (λ p. ap (λ x. u *ℤ x) (k p) ∙ same_by (u ∷ []) (mul (var 0) (lit (pos 1))) (var 0) refl)
 
 whole_by : (M n d c A : ℤ) → pos 0 <ℤ M → n *ℤ M ≡ pos 2 *ℤ c *ℤ d → pos 2 *ℤ c ≡ M *ℤ A → n *ℤ pos 1 ≡ A *ℤ d

@@ -44,7 +44,8 @@ upper e = int_max e.from.y e.to.y
 pub weight_below : (H : ℤ) (e : Edge) (k : ℤ) → pos 0 <ℤ H → k <ℤ (lower e *ℤ H) → weight H e k ≡ pos 0
 unfolding weight lower
 weight_below H e k h p =
-    let m : (int_min e.from.y e.to.y ≤ℤ e.from.y) × (int_min e.from.y e.to.y ≤ℤ e.to.y) = min_of {z = int_min e.from.y e.to.y} {u = e.from.y} {v = e.to.y} refl in
+    let m : (int_min e.from.y e.to.y ≤ℤ e.from.y) × (int_min e.from.y e.to.y ≤ℤ e.to.y) =
+    min_of {z = int_min e.from.y e.to.y} {u = e.from.y} {v = e.to.y} refl in
     omega (
       arith,
       ints,
@@ -55,7 +56,8 @@ weight_below H e k h p =
 pub weight_above : (H : ℤ) (e : Edge) (k : ℤ) → pos 0 <ℤ H → (upper e *ℤ H) ≤ℤ k → weight H e k ≡ pos 0
 unfolding weight upper
 weight_above H e k h p =
-    let m : (e.from.y ≤ℤ int_max e.from.y e.to.y) × (e.to.y ≤ℤ int_max e.from.y e.to.y) = max_of {z = int_max e.from.y e.to.y} {u = e.from.y} {v = e.to.y} refl in
+    let m : (e.from.y ≤ℤ int_max e.from.y e.to.y) × (e.to.y ≤ℤ int_max e.from.y e.to.y) =
+    max_of {z = int_max e.from.y e.to.y} {u = e.from.y} {v = e.to.y} refl in
     omega (
       arith,
       ints,
@@ -348,8 +350,10 @@ reach_up w H ax ay bx by k e =
     let odd = add (mul (lit (pos 2)) (var 5)) (lit (pos 1)) in
     ap (λ x. x *ℤ (pos 2 *ℤ H *ℤ (ax *ℤ by -ℤ bx *ℤ ay) +ℤ (pos 2 *ℤ k +ℤ pos 1) *ℤ (bx -ℤ ax))) e
     ∙ same_by (H ∷ ax ∷ ay ∷ bx ∷ by ∷ k ∷ [])
-    (mul (lit (pos 1)) (add (mul (mul (lit (pos 2)) (var 0)) (sub (mul (var 1) (var 4)) (mul (var 3) (var 2)))) (mul odd (sub (var 3) (var 1)))))
-    (add (mul (var 1) (sub (mul (lit (pos 2)) (mul (var 4) (var 0))) odd)) (mul (var 3) (sub odd (mul (lit (pos 2)) (mul (var 2) (var 0))))))
+    (mul (lit (pos 1)) (add (mul (mul (lit (pos 2)) (var 0)) (sub (mul (var 1) (var 4)) (mul (var 3) (var 2))))
+    (mul odd (sub (var 3) (var 1)))))
+    (add (mul (var 1) (sub (mul (lit (pos 2)) (mul (var 4) (var 0))) odd))
+    (mul (var 3) (sub odd (mul (lit (pos 2)) (mul (var 2) (var 0))))))
     refl
 
 reach_down : (w H ax ay bx by k : ℤ) → w ≡ negsuc 0
@@ -359,8 +363,10 @@ reach_down w H ax ay bx by k e =
     let odd = add (mul (lit (pos 2)) (var 5)) (lit (pos 1)) in
     ap (λ x. x *ℤ (pos 2 *ℤ H *ℤ (ax *ℤ by -ℤ bx *ℤ ay) +ℤ (pos 2 *ℤ k +ℤ pos 1) *ℤ (bx -ℤ ax))) e
     ∙ same_by (H ∷ ax ∷ ay ∷ bx ∷ by ∷ k ∷ [])
-    (mul (lit (negsuc 0)) (add (mul (mul (lit (pos 2)) (var 0)) (sub (mul (var 1) (var 4)) (mul (var 3) (var 2)))) (mul odd (sub (var 3) (var 1)))))
-    (add (mul (var 1) (sub odd (mul (lit (pos 2)) (mul (var 4) (var 0))))) (mul (var 3) (sub (mul (lit (pos 2)) (mul (var 2) (var 0))) odd)))
+    (mul (lit (negsuc 0)) (add (mul (mul (lit (pos 2)) (var 0)) (sub (mul (var 1) (var 4)) (mul (var 3) (var 2))))
+    (mul odd (sub (var 3) (var 1)))))
+    (add (mul (var 1) (sub odd (mul (lit (pos 2)) (mul (var 4) (var 0)))))
+    (mul (var 3) (sub (mul (lit (pos 2)) (mul (var 2) (var 0))) odd)))
     refl
 
 -- the columns left of an edge, in the rows between its ends, are within the limit

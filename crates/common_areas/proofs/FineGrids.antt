@@ -74,9 +74,25 @@ each_divides m (e ∷ es) = (
 -- ---- exact quotients
 no_rest : (d t q r : ℤ) → pos 0 <ℤ d → q *ℤ d +ℤ r ≡ d *ℤ t → size r <ℤ d → d *ℤ t ≡ d *ℤ q
 no_rest d t q r dp e h = by_lt_z t q
-    (λ p. absurd (omega (arith, ints, e, h, (size_above r).1, expanded, mul_le (pos 1) (q -ℤ t) d (le_of_lt (pos 0) d dp) (omega (arith, ints)))))
+    (λ p. absurd (omega (
+      arith,
+      ints,
+      e,
+      h,
+      (size_above r).1,
+      expanded,
+      mul_le (pos 1) (q -ℤ t) d (le_of_lt (pos 0) d dp) (omega (arith, ints)),
+    )))
     (λ p. by_lt_z q t
-    (λ o. absurd (omega (arith, ints, e, h, (size_above r).0, expanded', mul_le (pos 1) (t -ℤ q) d (le_of_lt (pos 0) d dp) (omega (arith, ints)))))
+    (λ o. absurd (omega (
+      arith,
+      ints,
+      e,
+      h,
+      (size_above r).0,
+      expanded',
+      mul_le (pos 1) (t -ℤ q) d (le_of_lt (pos 0) d dp) (omega (arith, ints)),
+    )))
     (λ o. let s : t ≡ q = omega (arith, ints) in ap (λ x. d *ℤ x) s))
   where
     expanded : (q -ℤ t) *ℤ d ≡ q *ℤ d -ℤ d *ℤ t
@@ -92,7 +108,8 @@ no_rest d t q r dp e h = by_lt_z t q
 
 exact_quotient : (d a : ℤ) → pos 0 <ℤ d → Divides d a → a ≡ d *ℤ int_div a d
 exact_quotient d a dp h =
-    let below : unsigned_abs (int_rem a d) < unsigned_abs d = rem_below a d (omega (arith, ints, dp, size_not_neg d (le_of_lt (pos 0) d dp))) in
+    let below : unsigned_abs (int_rem a d) < unsigned_abs d =
+    rem_below a d (omega (arith, ints, dp, size_not_neg d (le_of_lt (pos 0) d dp))) in
     let small : size (int_rem a d) <ℤ d = omega (arith, ints, below, size_not_neg d (le_of_lt (pos 0) d dp)) in
     h.is ∙ no_rest d h.factor (int_div a d) (int_rem a d) dp (quot-rem a d ∙ h.is) small
 

@@ -100,7 +100,8 @@ below_size z = by_lt_z z (pos 0)
 floor_of : (a d : ℤ) → pos 0 <ℤ d → Floor a d
 floor_of a d dp =
     let whole = quot-rem a d in
-    let below : unsigned_abs (int_rem a d) < unsigned_abs d = rem_below a d (omega (arith, ints, dp, size_not_neg d (le_of_lt (pos 0) d dp))) in
+    let below : unsigned_abs (int_rem a d) < unsigned_abs d =
+    rem_below a d (omega (arith, ints, dp, size_not_neg d (le_of_lt (pos 0) d dp))) in
     let small : size (int_rem a d) <ℤ d = omega (arith, ints, below, size_not_neg d (le_of_lt (pos 0) d dp)) in
     by_lt_z (int_rem a d) (pos 0)
     (λ p. record {
@@ -138,11 +139,13 @@ record IsNear (p m : Point) (W H : ℤ) : Type 0 where
 offset : (A B D x d i : ℤ) → pos 0 ≤ℤ B → D ≡ pos 2 *ℤ B *ℤ A → (d *ℤ i) ≤ℤ (x *ℤ A) → (x *ℤ A) <ℤ (d *ℤ (i +ℤ pos 1))
     → (neg_ℤ (B *ℤ d) ≤ℤ ((pos 2 *ℤ i +ℤ pos 1) *ℤ B *ℤ d -ℤ x *ℤ D)) × (((pos 2 *ℤ i +ℤ pos 1) *ℤ B *ℤ d -ℤ x *ℤ D) ≤ℤ (B *ℤ d))
 offset A B D x d i Bp eD low high =
-    let step : d *ℤ (i +ℤ pos 1) ≡ d *ℤ i +ℤ d = same_by (d ∷ i ∷ []) (mul (var 0) (add (var 1) (lit (pos 1)))) (add (mul (var 0) (var 1)) (var 0)) refl in
+    let step : d *ℤ (i +ℤ pos 1) ≡ d *ℤ i +ℤ d =
+    same_by (d ∷ i ∷ []) (mul (var 0) (add (var 1) (lit (pos 1)))) (add (mul (var 0) (var 1)) (var 0)) refl in
     let is : (pos 2 *ℤ (d *ℤ i) +ℤ d -ℤ pos 2 *ℤ (x *ℤ A)) *ℤ B ≡ (pos 2 *ℤ i +ℤ pos 1) *ℤ B *ℤ d -ℤ x *ℤ D =
     same_by (A ∷ B ∷ x ∷ d ∷ i ∷ [])
     (mul (sub (add (mul (lit (pos 2)) (mul (var 3) (var 4))) (var 3)) (mul (lit (pos 2)) (mul (var 2) (var 0)))) (var 1))
-    (sub (mul (mul (add (mul (lit (pos 2)) (var 4)) (lit (pos 1))) (var 1)) (var 3)) (mul (var 2) (mul (mul (lit (pos 2)) (var 1)) (var 0)))) refl
+    (sub (mul (mul (add (mul (lit (pos 2)) (var 4)) (lit (pos 1))) (var 1)) (var 3))
+    (mul (var 2) (mul (mul (lit (pos 2)) (var 1)) (var 0)))) refl
     ∙ ap (λ z. (pos 2 *ℤ i +ℤ pos 1) *ℤ B *ℤ d -ℤ x *ℤ z) (sym eD) in
     let lows : neg_ℤ d *ℤ B ≡ neg_ℤ (B *ℤ d) = same_by (d ∷ B ∷ []) (mul (neg (var 0)) (var 1)) (neg (mul (var 1) (var 0))) refl in
     let highs : d *ℤ B ≡ B *ℤ d = same_by (d ∷ B ∷ []) (mul (var 0) (var 1)) (mul (var 1) (var 0)) refl in
@@ -164,9 +167,12 @@ near_middle grid p =
     let fx = floor_of (p.x *ℤ grid.columns) p.d p.d_positive in
     let fy = floor_of (p.y *ℤ grid.rows) p.d p.d_positive in
     let other : grid.d ≡ pos 2 *ℤ grid.rows *ℤ grid.columns =
-    grid.d_is ∙ same_by (grid.columns ∷ grid.rows ∷ []) (mul (mul (lit (pos 2)) (var 0)) (var 1)) (mul (mul (lit (pos 2)) (var 1)) (var 0)) refl in
+    grid.d_is
+    ∙ same_by (grid.columns ∷ grid.rows ∷ []) (mul (mul (lit (pos 2)) (var 0)) (var 1))
+    (mul (mul (lit (pos 2)) (var 1)) (var 0)) refl in
     let x = offset grid.columns grid.rows grid.d p.x p.d fx.q (le_of_lt (pos 0) grid.rows grid.rows_positive) other fx.low fx.high in
-    let y = offset grid.rows grid.columns grid.d p.y p.d fy.q (le_of_lt (pos 0) grid.columns (columns_positive grid)) grid.d_is fy.low fy.high in
+    let y = offset grid.rows grid.columns grid.d p.y p.d fy.q (le_of_lt (pos 0) grid.columns (columns_positive grid))
+    grid.d_is fy.low fy.high in
     record {
       j = fx.q;
       k = fy.q;
@@ -250,7 +256,8 @@ between_positive a b c t p m s hp hm =
     ∙ ap (λ z. a *ℤ (s.m *ℤ p.x +ℤ s.n *ℤ m.x) +ℤ b *ℤ z +ℤ c *ℤ (s.k *ℤ t.d)) s.in_y
     ∙ ap (λ z. a *ℤ (s.m *ℤ p.x +ℤ s.n *ℤ m.x) +ℤ b *ℤ (s.m *ℤ p.y +ℤ s.n *ℤ m.y) +ℤ c *ℤ z) s.in_d
     ∙ same_by (a ∷ b ∷ c ∷ s.m ∷ s.n ∷ p.x ∷ p.y ∷ p.d ∷ m.x ∷ m.y ∷ m.d ∷ [])
-    (add (add (mul (var 0) (add (mul (var 3) (var 5)) (mul (var 4) (var 8)))) (mul (var 1) (add (mul (var 3) (var 6)) (mul (var 4) (var 9)))))
+    (add (add (mul (var 0) (add (mul (var 3) (var 5)) (mul (var 4) (var 8))))
+    (mul (var 1) (add (mul (var 3) (var 6)) (mul (var 4) (var 9)))))
     (mul (var 2) (add (mul (var 3) (var 7)) (mul (var 4) (var 10)))))
     (add (mul (var 3) (add (add (mul (var 0) (var 5)) (mul (var 1) (var 6))) (mul (var 2) (var 7))))
     (mul (var 4) (add (add (mul (var 0) (var 8)) (mul (var 1) (var 9))) (mul (var 2) (var 10))))) refl in
@@ -271,7 +278,8 @@ turn_measure a b p = same_by (a.x ∷ a.y ∷ b.x ∷ b.y ∷ p.x ∷ p.y ∷ p.
 back_measure : (a b : Corner) (p : Point)
     → neg_ℤ (turn_at a b p) ≡ measure (b.y -ℤ a.y) (a.x -ℤ b.x) ((b.x -ℤ a.x) *ℤ a.y -ℤ (b.y -ℤ a.y) *ℤ a.x) p
 back_measure a b p = same_by (a.x ∷ a.y ∷ b.x ∷ b.y ∷ p.x ∷ p.y ∷ p.d ∷ [])
-    (neg (sub (mul (sub (var 2) (var 0)) (sub (var 5) (mul (var 1) (var 6)))) (mul (sub (var 3) (var 1)) (sub (var 4) (mul (var 0) (var 6))))))
+    (neg (sub (mul (sub (var 2) (var 0)) (sub (var 5) (mul (var 1) (var 6))))
+    (mul (sub (var 3) (var 1)) (sub (var 4) (mul (var 0) (var 6))))))
     (add (add (mul (sub (var 3) (var 1)) (var 4)) (mul (sub (var 0) (var 2)) (var 5)))
     (mul (sub (mul (sub (var 2) (var 0)) (var 1)) (mul (sub (var 3) (var 1)) (var 0))) (var 6))) refl
 
@@ -327,7 +335,8 @@ off_way grid a b p m t ch off s on =
     (λ x. off (record { on_line = same (turn_at a b p) i h; from_x = u; to_x = v; from_y = w; to_y = x })))))))
   where
     small : (u v : ℤ) → IsWithin limit u → IsWithin limit v → IsSmall spread (u -ℤ v)
-    small u v h k = record { low = omega (arith, ints, h.low, h.high, k.low, k.high); high = omega (arith, ints, h.low, h.high, k.low, k.high) }
+    small u v h k =
+        record { low = omega (arith, ints, h.low, h.high, k.low, k.high); high = omega (arith, ints, h.low, h.high, k.low, k.high) }
 
     turned : (z : ℤ) → z <ℤ pos 0 → pos 0 <ℤ neg_ℤ z
     turned z h = omega (arith, ints)
@@ -339,28 +348,32 @@ off_way grid a b p m t ch off s on =
     far u x y d h = omega (arith, ints, h)
 
     far' : (u x y d : ℤ) → (u *ℤ d) <ℤ x → pos 0 <ℤ (pos 1 *ℤ x +ℤ pos 0 *ℤ y +ℤ neg_ℤ u *ℤ d)
-    far' u x y d h = let e : neg_ℤ u *ℤ d ≡ neg_ℤ (u *ℤ d) = same_by (u ∷ d ∷ []) (mul (neg (var 0)) (var 1)) (neg (mul (var 0) (var 1))) refl in
+    far' u x y d h = let e : neg_ℤ u *ℤ d ≡ neg_ℤ (u *ℤ d) =
+        same_by (u ∷ d ∷ []) (mul (neg (var 0)) (var 1)) (neg (mul (var 0) (var 1))) refl in
         omega (arith, ints, h, e)
 
     low : (u x y d : ℤ) → y <ℤ (u *ℤ d) → pos 0 <ℤ (pos 0 *ℤ x +ℤ negsuc 0 *ℤ y +ℤ u *ℤ d)
     low u x y d h = omega (arith, ints, h)
 
     low' : (u x y d : ℤ) → (u *ℤ d) <ℤ y → pos 0 <ℤ (pos 0 *ℤ x +ℤ pos 1 *ℤ y +ℤ neg_ℤ u *ℤ d)
-    low' u x y d h = let e : neg_ℤ u *ℤ d ≡ neg_ℤ (u *ℤ d) = same_by (u ∷ d ∷ []) (mul (neg (var 0)) (var 1)) (neg (mul (var 0) (var 1))) refl in
+    low' u x y d h = let e : neg_ℤ u *ℤ d ≡ neg_ℤ (u *ℤ d) =
+        same_by (u ∷ d ∷ []) (mul (neg (var 0)) (var 1)) (neg (mul (var 0) (var 1))) refl in
         omega (arith, ints, h, e)
 
     too_far : (u x y d : ℤ) → pos 0 <ℤ (negsuc 0 *ℤ x +ℤ pos 0 *ℤ y +ℤ u *ℤ d) → (u *ℤ d) ≤ℤ x → ⊥
     too_far u x y d h k = omega (arith, ints, h, k)
 
     too_far' : (u x y d : ℤ) → pos 0 <ℤ (pos 1 *ℤ x +ℤ pos 0 *ℤ y +ℤ neg_ℤ u *ℤ d) → x ≤ℤ (u *ℤ d) → ⊥
-    too_far' u x y d h k = let e : neg_ℤ u *ℤ d ≡ neg_ℤ (u *ℤ d) = same_by (u ∷ d ∷ []) (mul (neg (var 0)) (var 1)) (neg (mul (var 0) (var 1))) refl in
+    too_far' u x y d h k = let e : neg_ℤ u *ℤ d ≡ neg_ℤ (u *ℤ d) =
+        same_by (u ∷ d ∷ []) (mul (neg (var 0)) (var 1)) (neg (mul (var 0) (var 1))) refl in
         omega (arith, ints, h, k, e)
 
     too_low : (u x y d : ℤ) → pos 0 <ℤ (pos 0 *ℤ x +ℤ negsuc 0 *ℤ y +ℤ u *ℤ d) → (u *ℤ d) ≤ℤ y → ⊥
     too_low u x y d h k = omega (arith, ints, h, k)
 
     too_low' : (u x y d : ℤ) → pos 0 <ℤ (pos 0 *ℤ x +ℤ pos 1 *ℤ y +ℤ neg_ℤ u *ℤ d) → y ≤ℤ (u *ℤ d) → ⊥
-    too_low' u x y d h k = let e : neg_ℤ u *ℤ d ≡ neg_ℤ (u *ℤ d) = same_by (u ∷ d ∷ []) (mul (neg (var 0)) (var 1)) (neg (mul (var 0) (var 1))) refl in
+    too_low' u x y d h k = let e : neg_ℤ u *ℤ d ≡ neg_ℤ (u *ℤ d) =
+        same_by (u ∷ d ∷ []) (mul (neg (var 0)) (var 1)) (neg (mul (var 0) (var 1))) refl in
         omega (arith, ints, h, k, e)
 
 off_ways : (grid : Grid) (p m t : Point) → Chosen grid p m → (es : List Edge) → ¬ IsOnSome p es → IsOnSegment t p m → ¬ IsOnSome t es
@@ -395,7 +408,14 @@ row_above grid share m n j k wide h [] = tt
 row_above grid share m n j k wide h (e ∷ es) = (
   none_at (weight grid.rows e k) (before j (columns_left grid.rows (share e) e k))
       (weight_above grid.rows e k grid.rows_positive
-      (omega (arith, ints, h, wide.up, mul_le (upper e) (pos limit) grid.rows (le_of_lt (pos 0) grid.rows grid.rows_positive) (upper_within e)))),
+      (omega (
+        arith,
+        ints,
+        h,
+        wide.up,
+        mul_le (upper e) (pos limit) grid.rows (le_of_lt (pos 0) grid.rows grid.rows_positive)
+            (upper_within e),
+      ))),
   row_above grid share m n j k wide h es,
 )
 
@@ -405,7 +425,15 @@ row_below grid share m n j k wide h [] = tt
 row_below grid share m n j k wide h (e ∷ es) = (
   none_at (weight grid.rows e k) (before j (columns_left grid.rows (share e) e k))
       (weight_below grid.rows e k grid.rows_positive
-      (omega (arith, ints, h, wide.up, negated, mul_le (neg_ℤ (pos limit)) (lower e) grid.rows (le_of_lt (pos 0) grid.rows grid.rows_positive) (lower_within e)))),
+      (omega (
+        arith,
+        ints,
+        h,
+        wide.up,
+        negated,
+        mul_le (neg_ℤ (pos limit)) (lower e) grid.rows
+            (le_of_lt (pos 0) grid.rows grid.rows_positive) (lower_within e),
+      ))),
   row_below grid share m n j k wide h es,
 )
   where
@@ -461,7 +489,8 @@ in_grid grid share m n j k ring hs wide h =
       j_high = by_lt_z j (pos m) (λ p. p) (λ p. absurd (nothing (zero_sum (λ e. weight grid.rows e k)
           (λ e. before j (columns_left grid.rows (share e) e k)) (edges ring) (column_behind grid share m n j k wide p (edges ring) hs))));
       k_low = by_lt_z k (neg_ℤ (pos n)) (λ p. absurd (nothing (zero_sum (λ e. weight grid.rows e k)
-          (λ e. before j (columns_left grid.rows (share e) e k)) (edges ring) (row_below grid share m n j k wide p (edges ring))))) (λ p. p);
+          (λ e. before j (columns_left grid.rows (share e) e k)) (edges ring) (row_below grid share m n j k wide p (edges ring)))))
+          (λ p. p);
       k_high = by_lt_z k (pos n) (λ p. p) (λ p. absurd (nothing (zero_sum (λ e. weight grid.rows e k)
           (λ e. before j (columns_left grid.rows (share e) e k)) (edges ring) (row_above grid share m n j k wide p (edges ring)))));
     }
@@ -513,7 +542,8 @@ positive_in r s once_r once_s p in_r in_s grid fine wide high =
     (once_r (middle grid j k) (off_ring grid fine.share j k r fine.first))
     (once_s (middle grid j k) (off_ring grid fine.share j k s fine.second)) in
     let row : pos 0 <ℤ sum_around m (λ j. winding (middle grid j near.k) r *ℤ winding (middle grid j near.k) s) =
-    one_positive m (λ j. winding (middle grid j near.k) r *ℤ winding (middle grid j near.k) s) (each near.k) near.j within.j_low within.j_high
+    one_positive m (λ j. winding (middle grid j near.k) r *ℤ winding (middle grid j near.k) s) (each near.k) near.j
+    within.j_low within.j_high
     (product_positive (winding (middle grid near.j near.k) r) (winding (middle grid near.j near.k) s) round_r round_s) in
     let count : pos 0 <ℤ cells grid m n r s =
     one_positive n (λ k. sum_around m (λ j. winding (middle grid j k) r *ℤ winding (middle grid j k) s))
@@ -524,9 +554,12 @@ positive_in r s once_r once_s p in_r in_s grid fine wide high =
 
 enough : (u v : ℤ) → pos 0 ≤ℤ u → pos 0 <ℤ v → u <ℤ ((u +ℤ pos 1) *ℤ v)
 enough u v h k =
-    let more : (pos 1 *ℤ (u +ℤ pos 1)) ≤ℤ (v *ℤ (u +ℤ pos 1)) = mul_le (pos 1) v (u +ℤ pos 1) (omega (arith, ints, h)) (omega (arith, ints, k)) in
-    let turned : v *ℤ (u +ℤ pos 1) ≡ (u +ℤ pos 1) *ℤ v = same_by (u ∷ v ∷ []) (mul (var 1) (add (var 0) (lit (pos 1)))) (mul (add (var 0) (lit (pos 1))) (var 1)) refl in
-    let one : pos 1 *ℤ (u +ℤ pos 1) ≡ u +ℤ pos 1 = same_by (u ∷ []) (mul (lit (pos 1)) (add (var 0) (lit (pos 1)))) (add (var 0) (lit (pos 1))) refl in
+    let more : (pos 1 *ℤ (u +ℤ pos 1)) ≤ℤ (v *ℤ (u +ℤ pos 1)) =
+    mul_le (pos 1) v (u +ℤ pos 1) (omega (arith, ints, h)) (omega (arith, ints, k)) in
+    let turned : v *ℤ (u +ℤ pos 1) ≡ (u +ℤ pos 1) *ℤ v =
+    same_by (u ∷ v ∷ []) (mul (var 1) (add (var 0) (lit (pos 1)))) (mul (add (var 0) (lit (pos 1))) (var 1)) refl in
+    let one : pos 1 *ℤ (u +ℤ pos 1) ≡ u +ℤ pos 1 =
+    same_by (u ∷ []) (mul (lit (pos 1)) (add (var 0) (lit (pos 1)))) (add (var 0) (lit (pos 1))) refl in
     first_below (pos 1 *ℤ (u +ℤ pos 1)) u (v *ℤ (u +ℤ pos 1)) ((u +ℤ pos 1) *ℤ v) one more turned
   where
     first_below : (a u b c : ℤ) → a ≡ u +ℤ pos 1 → a ≤ℤ b → b ≡ c → u <ℤ c
@@ -538,7 +571,8 @@ unfolding finer
 meeting_is_positive r s once_r once_s meet =
     let p = meet.0 in
     let g = fine_grid (edges r) (edges s) in
-    let up : pos 0 ≤ℤ (spread *ℤ meet.0.d) = mul_not_neg spread meet.0.d (omega (arith, ints)) (le_of_lt (pos 0) meet.0.d meet.0.d_positive) in
+    let up : pos 0 ≤ℤ (spread *ℤ meet.0.d) =
+    mul_not_neg spread meet.0.d (omega (arith, ints)) (le_of_lt (pos 0) meet.0.d meet.0.d_positive) in
     let cp : pos 0 <ℤ (spread *ℤ meet.0.d +ℤ pos 1) = above (spread *ℤ meet.0.d) up in
     positive_in r s once_r once_s meet.0 meet.1 meet.2 (finer g.0 (spread *ℤ meet.0.d +ℤ pos 1) cp)
     (finer_fine g.0 (spread *ℤ meet.0.d +ℤ pos 1) cp (edges r) (edges s) g.3)

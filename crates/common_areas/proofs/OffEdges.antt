@@ -23,7 +23,8 @@ not_on_line H y X j Hp n e =
 not_on_level : (W H d y k : ℤ) → pos 0 <ℤ W → d ≡ pos 2 *ℤ W *ℤ H → y *ℤ d ≡ (pos 2 *ℤ k +ℤ pos 1) *ℤ W → ⊥
 not_on_level W H d y k Wp ed e =
     let whole : W *ℤ (pos 2 *ℤ (y *ℤ H)) ≡ W *ℤ (pos 2 *ℤ k +ℤ pos 1) =
-    same_by (W ∷ H ∷ y ∷ []) (mul (var 0) (mul (lit (pos 2)) (mul (var 2) (var 1)))) (mul (var 2) (mul (mul (lit (pos 2)) (var 0)) (var 1))) refl
+    same_by (W ∷ H ∷ y ∷ []) (mul (var 0) (mul (lit (pos 2)) (mul (var 2) (var 1))))
+    (mul (var 2) (mul (mul (lit (pos 2)) (var 0)) (var 1))) refl
     ∙ ap (λ x. y *ℤ x) (sym ed) ∙ e
     ∙ same_by (W ∷ k ∷ []) (mul (add (mul (lit (pos 2)) (var 1)) (lit (pos 1))) (var 0))
     (mul (var 0) (add (mul (lit (pos 2)) (var 1)) (lit (pos 1)))) refl in

@@ -67,7 +67,8 @@ cell w v x y = pos 2 *ℤ (w *ℤ x) *ℤ (v *ℤ y) -ℤ v *ℤ (w *ℤ x) -ℤ
 
 cell_is : (w v x y : ℤ) → cell w v x y ≡ w *ℤ v *ℤ (pos 2 *ℤ x *ℤ y -ℤ x -ℤ y)
 cell_is w v x y = same_by (w ∷ v ∷ x ∷ y ∷ [])
-    (sub (sub (mul (mul (lit (pos 2)) (mul (var 0) (var 2))) (mul (var 1) (var 3))) (mul (var 1) (mul (var 0) (var 2)))) (mul (var 0) (mul (var 1) (var 3))))
+    (sub (sub (mul (mul (lit (pos 2)) (mul (var 0) (var 2))) (mul (var 1) (var 3))) (mul (var 1) (mul (var 0) (var 2))))
+    (mul (var 0) (mul (var 1) (var 3))))
     (mul (mul (var 0) (var 1)) (sub (sub (mul (mul (lit (pos 2)) (var 2)) (var 3)) (var 2)) (var 3)))
     refl
 
@@ -309,8 +310,10 @@ two_lines : (grid : Grid) (e f : Edge) (q p : ℤ) → IsShare grid e q → IsSh
     (first_columns grid.rows q p e f) (more_columns q p e f)
 two_lines grid e f q p he hf suits h =
     let H = grid.rows in
-    let ne : e.from.y ≢ e.to.y = not_level e (passed (lower e) (lowest e f) (highest e f) (upper e) (lowest_low e f).0 h (highest_high e f).0) in
-    let nf : f.from.y ≢ f.to.y = not_level f (passed (lower f) (lowest e f) (highest e f) (upper f) (lowest_low e f).1 h (highest_high e f).1) in
+    let ne : e.from.y ≢ e.to.y =
+    not_level e (passed (lower e) (lowest e f) (highest e f) (upper e) (lowest_low e f).0 h (highest_high e f).0) in
+    let nf : f.from.y ≢ f.to.y =
+    not_level f (passed (lower f) (lowest e f) (highest e f) (upper f) (lowest_low e f).1 h (highest_high e f).1) in
     let se : grid.columns ≡ pos 2 *ℤ grid.rows *ℤ rise e *ℤ q = share_of grid e q he ne in
     let sf : grid.columns ≡ pos 2 *ℤ grid.rows *ℤ rise f *ℤ p = share_of grid f p hf nf in
     record {

@@ -42,7 +42,8 @@ triangles : (H h c W B S s M g0 g1 G0 G1 m0 m1 p0 p1 D : ℤ) → pos 0 <ℤ H
 triangles H h c W B S s M g0 g1 G0 G1 m0 m1 p0 p1 D Hp eh f0 f1 e0 e1 eb es ed ep = cancel (H *ℤ H) _ _ (mul_pos H H Hp Hp) (
     same_by (H ∷ h ∷ g0 ∷ g1 ∷ W ∷ [])
     (mul (mul (var 0) (var 0)) (mul (mul (var 1) (add (mul (var 2) (var 2)) (mul (var 3) (var 3)))) (mul (var 4) (var 0))))
-    (mul (mul (mul (var 0) (var 1)) (add (mul (mul (var 0) (var 2)) (mul (var 0) (var 2))) (mul (mul (var 0) (var 3)) (mul (var 0) (var 3)))))
+    (mul (mul (mul (var 0) (var 1)) (add (mul (mul (var 0) (var 2)) (mul (var 0) (var 2)))
+    (mul (mul (var 0) (var 3)) (mul (var 0) (var 3)))))
     (var 4)) refl
     ∙ ap (λ x. x *ℤ (H *ℤ g0 *ℤ (H *ℤ g0) +ℤ H *ℤ g1 *ℤ (H *ℤ g1)) *ℤ W) eh
     ∙ ap (λ x. M *ℤ (x *ℤ x +ℤ H *ℤ g1 *ℤ (H *ℤ g1)) *ℤ W) f0
@@ -304,7 +305,8 @@ crossing_of H W c lo hi γ s α β t l n e =
       second = second;
       first_size = size_at_scale H (γ +ℤ s *ℤ lo) s (lo *ℤ H +ℤ t *ℤ γ) l.H_positive first;
       second_size = size_at_scale H (γ +ℤ s *ℤ hi) s (hi *ℤ H +ℤ t *ℤ γ) l.H_positive second;
-      widens = sym (size_times (pos 2 *ℤ H *ℤ c) β (le_of_lt (pos 0) (pos 2 *ℤ H *ℤ c) two_H_c)) ∙ ap size l.widens ∙ size_times W s l.W_not_negative;
+      widens = sym (size_times (pos 2 *ℤ H *ℤ c) β (le_of_lt (pos 0) (pos 2 *ℤ H *ℤ c) two_H_c)) ∙ ap size l.widens
+          ∙ size_times W s l.W_not_negative;
       signs = product_at_scale H (γ +ℤ s *ℤ lo) (γ +ℤ s *ℤ hi) s (lo *ℤ H +ℤ t *ℤ γ) (hi *ℤ H +ℤ t *ℤ γ) first second;
     }
 

@@ -15,7 +15,8 @@ use Rattle.common_areas.specs.Common.{sum_shares, common_area2}
 -- fractions with one numerator and one denominator
 pub same_fraction : (a b : Fraction) → a.n ≡ b.n → a.d ≡ b.d → a ≡ b
 same_fraction a b h k =
-    ap (λ (n : ℤ). let f : Fraction = record { n = n; d = a.d } in f) h ∙ ap (λ (d : ℤ). let f : Fraction = record { n = b.n; d = d } in f) k
+    ap (λ (n : ℤ). let f : Fraction = record { n = n; d = a.d } in f) h
+    ∙ ap (λ (d : ℤ). let f : Fraction = record { n = b.n; d = d } in f) k
 
 pub plus_turned : (a b : Fraction) → plus a b ≡ plus b a
 plus_turned a b = same_fraction (plus a b) (plus b a) (omega (arith, ints)) (omega (arith, ints))

@@ -33,8 +33,8 @@ place edge y = way edge *ℤ (edge.from.x *ℤ (edge.to.y -ℤ y) +ℤ edge.to.x
 abbrev pub gap : Edge → Edge → ℤ → ℤ
 gap e f y = place e y *ℤ rise f -ℤ place f y *ℤ rise e
 
--- The area between two lines over a height. Their gaps at its bottom and its top are u / c and v / c: the area is a trapezoid's or,
--- where the lines cross on the way, that of two triangles.
+-- The area between two lines over a height. Their gaps at its bottom and its top are u / c and v / c: the area is a
+-- trapezoid's or, where the lines cross on the way, that of two triangles.
 abbrev pub area_of_gaps : (height c u v : ℤ) → Fraction
 area_of_gaps height c u v =
     if int_le (pos 0) (u *ℤ v)

@@ -11,7 +11,8 @@ abbrev pub sum_shares : (Edge → Fraction) → List Edge → Fraction
 sum_shares share [] = whole (pos 0)
 sum_shares share (edge ∷ rest) = plus (share edge) (sum_shares share rest)
 
--- Twice the area common to two rings: the sum, over each edge of the one and each edge of the other, of the area between them at the levels
--- that both have. It is counted where one edge goes up and the other down, and taken off where both go alike.
+-- Twice the area common to two rings: the sum, over each edge of the one and each edge of the other, of the area
+-- between them at the levels that both have. It is counted where one edge goes up and the other down, and taken off
+-- where both go alike.
 abbrev pub common_area2 : List Corner → List Corner → Fraction
 common_area2 r s = sum_shares (λ e. sum_shares (between e) (edges s)) (edges r)

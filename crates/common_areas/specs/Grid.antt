@@ -22,7 +22,7 @@ pub record Grid : Type 0 where
   pub rows_positive : pos 0 <ℤ rows
   pub d_positive : pos 0 <ℤ d
 
--- the middle of the cell in column j and row k: the place ((j + 1/2) / columns, (k + 1/2) / rows)
+-- the middle of the cell in column j and row k: the point ((j + 1/2) / columns, (k + 1/2) / rows)
 abbrev pub middle : Grid → ℤ → ℤ → Point
 middle grid j k = record {
   x = (pos 2 *ℤ j +ℤ pos 1) *ℤ grid.rows;
@@ -36,8 +36,8 @@ pub record Divides (a b : ℤ) : Type 0 where
   pub factor : ℤ
   pub is : b ≡ a *ℤ factor
 
--- The edge is level, or at the middle of each row it is at a border of columns: for a millimetre that it rises, share columns make
--- half a row's worth of the columns.
+-- The edge is level, or at the middle of each row it is at a border of columns: for a millimetre that it rises, share
+-- columns make half a row's worth of the columns.
 pub record IsShare (grid : Grid) (e : Edge) (share : ℤ) : Type 0 where
   pub divides : (rise e ≡ pos 0) ⊎ (grid.columns ≡ pos 2 *ℤ grid.rows *ℤ rise e *ℤ share)
 

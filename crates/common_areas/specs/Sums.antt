@@ -1,5 +1,5 @@
--- Common areas with several rings, and rings that wind at most once (this product's own; winding numbers are those of OGC
--- 06-103r4, 6.1.11, Polygon).
+-- Common areas with several rings, and rings that wind at most once (this product's own; winding numbers are those of
+-- OGC 06-103r4, 6.1.11, Polygon).
 use Rattle.std.specs.Prelude.{◌≡◌, ℤ, pos, ◌+ℤ◌, ◌≤ℤ◌, List, [], ◌∷◌, ◌++◌}
 use Rattle.std.specs.List.{AllByRecursion}
 use Rattle.geo_exact.specs.declared.corner.Corner.{Corner}
@@ -10,7 +10,7 @@ use Rattle.geo_exact.specs.Winding.{winding, IsInterior}
 use Rattle.common_areas.specs.Fractions.{Fraction, whole, plus}
 use Rattle.common_areas.specs.Common.{common_area2}
 
--- off its edges the ring goes round each place once or not at all
+-- off its edges the ring goes round each point once or not at all
 abbrev pub WindsOnce : List Corner → Type 0
 WindsOnce ring = (p : Point) → ¬ IsOnRing p ring → (pos 0 ≤ℤ winding p ring) × (winding p ring ≤ℤ pos 1)
 
@@ -29,7 +29,7 @@ abbrev pub all_edges_of : List (List Corner) → List Edge
 all_edges_of [] = []
 all_edges_of (part ∷ parts) = edges part ++ all_edges_of parts
 
--- off all edges the rings together go round each place as often as one ring does
+-- off all edges the rings together go round each point as often as one ring does
 abbrev pub MakeUpOffEdges : List (List Corner) → List Corner → Type 0
 MakeUpOffEdges parts ring = (p : Point) → ¬ IsOnRing p ring → AllByRecursion (λ part. ¬ IsOnRing p part) parts
     → sum_of_windings p parts ≡ winding p ring

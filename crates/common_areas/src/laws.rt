@@ -18,13 +18,15 @@ pub fn a_common_area_has_no_order()
 /// The area common to two rings is a count of cells: in a grid that is fine enough, twice the sum over its cells of
 /// the product of the winding numbers round the cell's middle is, in cells, twice the area common to both.
 pub fn common_areas_are_counts_of_cells()
-    ensures count { (r s : List Corner) (grid : Grid) (m n : ℕ) → IsFine grid (edges_of r) (edges_of s) → Reaches grid m n
+    ensures count { (r s : List Corner) (grid : Grid) (m n : ℕ) → IsFine grid (edges_of r) (edges_of s)
+        → Reaches grid m n
         → (common_area2 r s).n *ℤ (grid.columns *ℤ grid.rows) ≡ pos 2 *ℤ cells grid m n r s *ℤ (common_area2 r s).d }
     ensures fraction { (r s : List Corner) (grid : Grid) (m n : ℕ) → IsFine grid (edges_of r) (edges_of s)
         → Reaches grid m n → pos 0 <ℤ (common_area2 r s).d }
 {}
 
-/// For any edges there is a grid that is fine enough, and numbers of its columns and rows that reach as far as the limit.
+/// For any edges there is a grid that is fine enough, and numbers of its columns and
+/// rows that reach as far as the limit.
 pub fn a_fine_grid_is_there()
     ensures { (es fs : List Edge) → (grid : Grid) × (m : ℕ) × (n : ℕ) × IsFine grid es fs × Reaches grid m n }
 {}
@@ -37,7 +39,7 @@ pub fn a_common_area_is_one_of_interiors()
         → (pos 0 <ℤ (common_area2 r s).n) ↔ InteriorsMeet r s }
 {}
 
-/// The areas that a ring has in common with rings that together go round each place off all edges as often as one ring
+/// The areas that a ring has in common with rings that together go round each point off all edges as often as one ring
 /// does sum to the area that it has in common with that one, exactly.
 pub fn common_areas_add_up()
     ensures { (r ring : List Corner) (parts : List (List Corner)) → MakeUpOffEdges parts ring

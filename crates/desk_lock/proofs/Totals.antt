@@ -80,6 +80,12 @@ module _ {A : Type 0} where
         let whole = ap length (journal_is office.origin book keeps.of_origin)
         ∙ length-append office.origin.journal (behind office.origin book.journal) in
         record {
-          sheet = record { of_origin = keeps.of_origin; of_clerks = keeps.of_clerks; agree = all_agree cards agree; met = all_have_met cards met };
+          sheet =
+              record {
+                of_origin = keeps.of_origin;
+                of_clerks = keeps.of_clerks;
+                agree = all_agree cards agree;
+                met = all_have_met cards met;
+              };
           total = omega (arith, sum, known, whole);
         }

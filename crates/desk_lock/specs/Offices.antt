@@ -1,4 +1,5 @@
--- An office at which several clerks edit one fabric, and what its cards, receipts and windows tell (this product's own).
+-- An office at which several clerks edit one fabric, and what its cards, receipts
+-- and windows tell (this product's own).
 use Rattle.std.specs.Prelude.{◌≡◌, ◌⊎◌, Bool, ℕ, zero, suc, ◌+◌, nat_eq, List, [], ◌∷◌, ◌++◌, drop, length}
 use Rattle.std.specs.Prelude.{sum_by, All}
 use Rattle.std.specs.List.{filter}
@@ -12,20 +13,21 @@ use Rattle.fabric_core.specs.Journal.{State, JournalEntry, Book, replay}
 use Rattle.fabric_core.specs.EditResults.{IsLawful}
 use Rattle.fabric_core.specs.Refusals.{IsRefusal}
 
--- what is told of the fabric that was handed to an office: the city's ring, the state in which the fabric was opened, and its journal
+-- the fabric that was handed to an office: the city's ring, the state in which the fabric was opened, and its journal
 pub record Origin (A : Type 0) : Type 0 where
   pub city : List Corner
   pub opening : State
   pub journal : List (JournalEntry A)
 
--- which office: the name of its cards, which no other office's have, how many clerks it has, and the fabric that was handed to it
+-- which office: the name of its cards, which no other office's have, how many clerks it
+-- has, and the fabric that was handed to it
 pub record OfficeId (A : Type 0) : Type 0 where
   pub cards : TableId
   pub clerks : ℕ
   pub origin : Origin A
 
--- what a card shows: its clerk's number, the entries that were accepted with it, and all entries that were accepted at its desk until they
--- last met, each in order
+-- what a card shows: its clerk's number, the entries that were accepted with it, and all entries that were accepted at
+-- its desk until they last met, each in order
 pub record CardState (A : Type 0) : Type 0 where
   pub clerk : ℕ
   pub made : List (JournalEntry A)
@@ -37,14 +39,15 @@ pub record DeskState (A : Type 0) : Type 0 where
   pub entries : List (JournalEntry A)
   pub published : List (JournalEntry A)
 
--- what a receipt shows: the entry, whether it was published, and the journal that it tells, which is empty where it was not
+-- what a receipt shows: the entry, whether it was published, and the journal that it
+-- tells, which is empty where it was not
 pub record ReceiptState (A : Type 0) : Type 0 where
   pub entry : JournalEntry A
   pub published : Bool
   pub told : List (JournalEntry A)
 
--- what a window shows: the state in which the office's fabric was opened, and the entries that the versions which it entered and the
--- receipts which it learnt rest on
+-- what a window shows: the state in which the office's fabric was opened, and the entries that the versions which it
+-- entered and the receipts which it learnt rest on
 pub record WindowState (A : Type 0) : Type 0 where
   pub opening : State
   pub seen : List (JournalEntry A)
@@ -53,7 +56,7 @@ module _ {A : Type 0} where
   abbrev pub origin_of : Book A → Origin A
   origin_of book = record { city = book.city; opening = book.opening; journal = book.journal }
 
-  -- a fabric comes of the one that was handed in: the same city, the same opening, and a journal that begins with that fabric's
+  -- a fabric comes of the one handed in: the same city, the same opening, and a journal that begins with that one's
   pub record IsOfOrigin (origin : Origin A) (book : Book A) : Type 0 where
     pub city : book.city ≡ origin.city
     pub opening : book.opening ≡ origin.opening
@@ -83,7 +86,8 @@ module _ {A : Type 0} where
   abbrev pub journal_met : OfficeId A → CardState A → List (JournalEntry A)
   journal_met office card = office.origin.journal ++ card.met
 
-  -- a card that has met these entries; and one after an edit that was accepted with it, which has met these entries then
+  -- a card that has met these entries; and one after an edit that was accepted
+  -- with it, which has met these entries then
   abbrev pub with_met : CardState A → List (JournalEntry A) → CardState A
   with_met card met = record { clerk = card.clerk; made = card.made; met = met }
 
@@ -100,8 +104,8 @@ module _ {A : Type 0} where
   window_of origin = record { opening = origin.opening; seen = origin.journal }
 
   -- a journal of the office at some time, at which the card's clerk had made what the card says: lawful, first the
-  -- entries of the fabric that was handed in, then entries of the office's clerks alone, of which the first are those that
-  -- the card has met
+  -- entries of the fabric that was handed in, then entries of the office's clerks alone, of which the first are those
+  -- that the card has met
   pub record IsSometime (office : OfficeId A) (card : CardState A) (journal : List (JournalEntry A)) : Type 0 where
     pub lawful : IsLawful office.origin.opening journal
     pub begins : IsPrefix office.origin.journal journal
@@ -110,9 +114,11 @@ module _ {A : Type 0} where
     pub met : HasMet (behind office.origin journal) card
 
   -- the edit is refused for this reason after exactly the journal that the card has met
-  pub record IsRefusedWhenMet (office : OfficeId A) (card : CardState A) (edit : Edit A) (refusal : Refusal) : Type 0 where
+  pub record IsRefusedWhenMet (office : OfficeId A) (card : CardState A) (edit : Edit A)
+      (refusal : Refusal) : Type 0 where
     pub sometime : IsSometime office card (journal_met office card)
-    pub is_refusal : IsRefusal (replay office.origin.opening (journal_met office card)) (journal_met office card) edit refusal
+    pub is_refusal : IsRefusal (replay office.origin.opening (journal_met office card))
+        (journal_met office card) edit refusal
 
   -- a list of so many entries that ends with this one
   pub record EndsWith (entry : JournalEntry A) (number : ℕ) (journal : List (JournalEntry A)) : Type 0 where

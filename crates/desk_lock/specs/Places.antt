@@ -9,7 +9,8 @@ IsWrongCount n = (n ≡ 0) ⊎ (8 < n)
 
 -- this number is refused: that of the clerks, or else that of the windows
 abbrev pub IsWrong : ℕ → ℕ → ℕ → Type 0
-IsWrong clerks windows n = (IsWrongCount clerks × (n ≡ clerks)) ⊎ ((¬ IsWrongCount clerks) × IsWrongCount windows × (n ≡ windows))
+IsWrong clerks windows n =
+    (IsWrongCount clerks × (n ≡ clerks)) ⊎ ((¬ IsWrongCount clerks) × IsWrongCount windows × (n ≡ windows))
 
 -- an office is not opened for this reason; the last two are looked at only where both numbers are right
 abbrev pub IsOpenFault : ℕ → ℕ → OpenFault → Type 0

@@ -43,7 +43,8 @@ impl<'a, H: Allocator, J: Naming<H>> Model for Card<'a, H, J> {
 
     ghost view = { λ card. record { clerk = card.clerk; made = card.stub.made; met = card.stub.met } };
 
-    ghost invariant = { λ card. (card.stub.name ≡ J.office.cards) × (card.clerk ≡ card.stub.clerk) × (card.count ≡ length card.stub.made) };
+    ghost invariant = { λ card. (card.stub.name ≡ J.office.cards) × (card.clerk ≡ card.stub.clerk)
+        × (card.count ≡ length card.stub.made) };
 }
 
 impl<'a, H: Allocator, J: Naming<H>> Card<'a, H, J> {

@@ -1,6 +1,7 @@
 //! What lies under the lock.
-ghost use Rattle.std.specs.Prelude.{◌≡◌, ◌≢◌, ◌⊎◌, ◌↔◌, ◌+◌, ◌≤◌, [], ◌∷◌, ◌++◌, map, length, drop, take, max, All, true, IfOk, IfErr, IfSome};
-ghost use Rattle.std.specs.Prelude.{◌<◌, None, IfNone, IsSome, IsOk, IsErrAnd, IsErrOf, OnErr, MatchBool};
+ghost use Rattle.std.specs.Prelude.{◌≡◌, ◌≢◌, ◌⊎◌, ◌↔◌, ◌+◌, ◌≤◌, [], ◌∷◌, ◌++◌, map, length, drop, take, max};
+ghost use Rattle.std.specs.Prelude.{All, true, IfOk, IfErr, IfSome, ◌<◌, None, IfNone, IsSome, IsOk, IsErrAnd};
+ghost use Rattle.std.specs.Prelude.{IsErrOf, OnErr, MatchBool};
 ghost use mathlib.Core.List.{IsPrefix};
 ghost use Rattle.ring_edits.specs.Edits.{CoversAlike};
 ghost use Rattle.fabric_core.specs.declared.refusal.Refusal.{Refusal};
@@ -62,8 +63,8 @@ impl<'a, H: Allocator, J: Naming<H>, R: Wait + Drop> Model for Desk<'a, H, J, R>
 }
 
 impl<'a, H: Allocator, J: Naming<H>, R: Wait + Drop> Desk<'a, H, J, R> {
-    /// The desk's fabric tiles its city, its index and journal agree with its rows, and it comes of
-    /// the fabric that was handed to the office, with entries of the office's clerks alone behind
+    /// Only teaches the prover: the desk's fabric tiles its city, its index and journal agree with its rows, and it
+    /// comes of the fabric that was handed to the office, with entries of the office's clerks alone behind
     /// those of that fabric. What is published begins its journal, and has the entries of that fabric.
     pub fn use_invariant(&self)
         ensures tiling { IsTiling self.now.book.now.rows self.now.book.city }
@@ -82,7 +83,8 @@ impl<'a, H: Allocator, J: Naming<H>, R: Wait + Drop> Desk<'a, H, J, R> {
         self.publisher.use_invariant();
     }
 
-    /// Makes an edit by the card's clerk, as [`Fabric::edit`] does; the card counts it, and has met the journal with it.
+    /// Makes an edit by the card's clerk, as [`Fabric::edit`] does; the card counts
+    /// it, and has met the journal with it.
     ///
     /// # Errors
     ///
@@ -117,7 +119,7 @@ impl<'a, H: Allocator, J: Naming<H>, R: Wait + Drop> Desk<'a, H, J, R> {
             IsRefusal self.old.book.now self.old.book.journal edit.now refusal ⊎ (refusal ≡ NoMemory)) }
         ensures refuses { (refusal : Refusal) → IsRefusal self.old.book.now self.old.book.journal edit.now refusal
             → IsErrAnd result (λ e. (e ≡ refusal) ⊎ (e ≡ NoMemory)) }
-        // E9 and E1 to E5 are told before any memory is asked for.
+        // E9, E1 to E5, E7 and E11 are told whatever memory there is.
         ensures exact { (refusal : Refusal) → IsRefusal self.old.book.now self.old.book.journal edit.now refusal
             → NeedsNoMemory refusal → IsErrOf result refusal }
     {
@@ -157,9 +159,11 @@ impl<'a, H: Allocator, J: Naming<H>, R: Wait + Drop> Desk<'a, H, J, R> {
         // The journal is lawful afterwards, and the card's entries are its clerk's.
         ensures after { IfOk result (λ receipt. IsSometime J.office card.new self.new.book.journal) }
         // Where it says that it was published, the published version has the whole journal, which it tells.
-        ensures published { IfOk result (λ receipt. receipt.published ≡ true → self.new.published ≡ self.new.book.journal) }
+        ensures published { IfOk result (λ receipt. receipt.published ≡ true
+            → self.new.published ≡ self.new.book.journal) }
         ensures told { IfOk result (λ receipt. receipt.published ≡ true → receipt.told ≡ self.new.published) }
-        ensures unpublished { IfOk result (λ receipt. receipt.published ≢ true → self.new.published ≡ self.old.published) }
+        ensures unpublished { IfOk result (λ receipt. receipt.published ≢ true
+            → self.new.published ≡ self.old.published) }
         ensures untold { IfOk result (λ receipt. receipt.published ≢ true → receipt.told ≡ []) }
         // The card has met the journal as it is now.
         ensures met { journal_met J.office card.new ≡ self.new.book.journal }
@@ -169,7 +173,7 @@ impl<'a, H: Allocator, J: Naming<H>, R: Wait + Drop> Desk<'a, H, J, R> {
             IsRefusal self.old.book.now self.old.book.journal edit.now refusal ⊎ (refusal ≡ NoMemory)) }
         ensures refuses { (refusal : Refusal) → IsRefusal self.old.book.now self.old.book.journal edit.now refusal
             → IsErrAnd result (λ e. (e ≡ refusal) ⊎ (e ≡ NoMemory)) }
-        // E9 and E1 to E5 are told before any memory is asked for.
+        // E9, E1 to E5, E7 and E11 are told whatever memory there is.
         ensures exact { (refusal : Refusal) → IsRefusal self.old.book.now self.old.book.journal edit.now refusal
             → NeedsNoMemory refusal → IsErrOf result refusal }
     {
@@ -210,7 +214,8 @@ impl<'a, H: Allocator, J: Naming<H>, R: Wait + Drop> Desk<'a, H, J, R> {
     pub fn publish_to(&mut self, number: u64) -> Option<Notice<'a, H, J>>
         ensures same { (self.new.book ≡ self.old.book) × (self.new.entries ≡ self.old.entries) }
         // The published version has the journal's first so many entries, or those that it had, where they are more.
-        ensures first { IfSome result (λ told. told ≡ take (max number (length self.old.published)) self.old.book.journal) }
+        ensures first { IfSome result (λ told. told ≡ take (max number (length self.old.published))
+            self.old.book.journal) }
         ensures shown { IfSome result (λ told. self.new.published ≡ told) }
         ensures none { IfNone result (self.new ≡ self.old) }
         // It is refused where the journal is shorter, and not where so many entries are published already.
@@ -255,14 +260,14 @@ impl<'a, H: Allocator, J: Naming<H>, R: Wait + Drop> Desk<'a, H, J, R> {
         ensures agree { All (Agrees self.old.entries) cards.old }
         ensures met { All (HasMet self.old.entries) cards.old }
     {
-        compare_all(&mut self.keeper, cards);
+        recall_all(&mut self.keeper, cards);
     }
 
     /// A sheet of the fabric.
     ///
     /// # Errors
     ///
-    /// [`AllocError`] where an allocation is refused.
+    /// [`AllocError`] where an allocation fails.
     pub fn sheet(&self) -> Result<Sheet<'a, H>, AllocError>
         ensures { IfOk result (λ sheet. sheet ≡ self.now.book) }
     {
@@ -288,7 +293,7 @@ impl<'a, H: Allocator, J: Naming<H>, R: Wait + Drop> Desk<'a, H, J, R> {
 }
 
 /// Compares cards with what the keeper knows.
-fn compare_all<'a, H: Allocator, J: Naming<H>>(
+fn recall_all<'a, H: Allocator, J: Naming<H>>(
     keeper: &mut Keeper<Entry<&'a H>, &'a H>,
     cards: &mut [Card<'a, H, J>],
 )
@@ -297,12 +302,12 @@ fn compare_all<'a, H: Allocator, J: Naming<H>>(
     ensures known { All (IsKnown keeper.old.all) cards.old }
 {
     for place in 0..cards.len() {
-        compare_one(keeper, &mut cards[place]);
+        recall_one(keeper, &mut cards[place]);
     }
 }
 
 /// Compares a card with what the keeper knows.
-fn compare_one<'a, H: Allocator, J: Naming<H>>(
+fn recall_one<'a, H: Allocator, J: Naming<H>>(
     keeper: &mut Keeper<Entry<&'a H>, &'a H>,
     card: &mut Card<'a, H, J>,
 )

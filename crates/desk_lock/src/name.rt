@@ -8,7 +8,8 @@ use fabric_core::Entry;
 use std::alloc::{AllocError, Allocator};
 use std::marker::{Brand, Model};
 
-/// Which office. Each call of a program picks it.
+/// Which office. Each call of a program picks it: so the types tell the cards and windows
+/// of one office from those of another.
 pub trait Naming<H>: entry_history::Naming {
     ghost use Rattle.std.specs.Borrow.{Bor};
     ghost use Rattle.desk_lock.specs.Offices.{OfficeId};
@@ -46,7 +47,7 @@ impl<A: Allocator> Name<A> {
     ///
     /// # Errors
     ///
-    /// [`AllocError`] where an allocation is refused.
+    /// [`AllocError`] where an allocation fails.
     pub fn new(alloc: A) -> Result<Name<A>, AllocError> {
         let opened = Opened::new();
         let keeper = Keeper::new(alloc, MOST_PLACES as u32)?;

@@ -1,12 +1,13 @@
 //! An office.
-ghost use Rattle.std.specs.Prelude.{◌≡◌, ◌≢◌, ◌⊎◌, ◌≤◌, ℕ, [], length, replicate, true, IfOk, IfErr, IfSome, IsErrAnd, OnErr, IsOk, ◌↔◌};
+ghost use Rattle.std.specs.Prelude.{◌≡◌, ◌≢◌, ◌⊎◌, ◌≤◌, ℕ, [], length, replicate, true, IfOk, IfErr, IfSome, IsErrAnd};
+ghost use Rattle.std.specs.Prelude.{OnErr, IsOk, ◌↔◌};
 ghost use mathlib.Core.List.{IsPrefix};
 ghost use Rattle.fabric_core.specs.EditResults.{IsLawful};
 ghost use Rattle.fabric_core.specs.declared.refusal.Refusal.TheVariants.{NoMemory};
 ghost use Rattle.desk_lock.specs.declared.opening.OpenFault.TheVariants.{Places};
 ghost use Rattle.desk_lock.specs.declared.office.CloseFault.TheVariants.{CardsMissing};
-ghost use Rattle.desk_lock.specs.Offices.{origin_of, behind, fresh_cards, window_of, with_made, with_met, journal_met, IsSometime};
-ghost use Rattle.desk_lock.specs.Offices.{AreOfClerks, EndsWith, IsRefusedWhenMet, IsSheetOf, IsTotal};
+ghost use Rattle.desk_lock.specs.Offices.{origin_of, behind, fresh_cards, window_of, with_made, with_met, journal_met};
+ghost use Rattle.desk_lock.specs.Offices.{IsSometime, AreOfClerks, EndsWith, IsRefusedWhenMet, IsSheetOf, IsTotal};
 ghost use Rattle.desk_lock.specs.Places.{IsWrong, IsOpenFault};
 ghost use Rattle.desk_lock.specs.declared.opening.TheConstants.{MOST_PLACES};
 
@@ -28,7 +29,7 @@ pub enum CloseFault {
     CardsMissing(usize, usize),
 }
 
-/// An office at which clerks edit one fabric, each in a thread of his own, and windows show what was published.
+/// An office at which clerks edit one fabric, each in a thread of their own, and windows show what was published.
 pub struct Office<'a, H: Allocator, J: Naming<H>, R: Wait + Drop> {
     desk: Mutex<Desk<'a, H, J, R>>,
     clerks: usize,
@@ -69,7 +70,8 @@ impl<'a, H: Allocator, J: Naming<H>, R: Wait + Drop> Office<'a, H, J, R> {
         requires book { name.book ≡ J.book }
         requires office { J.office ≡ record { cards = name.cards; clerks = clerks; origin = origin_of fabric } }
         ensures cards { IfOk result (λ opened. opened.1.items ≡ fresh_cards 0 clerks) }
-        ensures windows { IfOk result (λ opened. opened.2.items ≡ replicate windows (window_of (origin_of fabric.entry))) }
+        ensures windows { IfOk result (λ opened. opened.2.items
+            ≡ replicate windows (window_of (origin_of fabric.entry))) }
         ensures back { IfErr result (λ back. back.0 ≡ fabric.entry) }
         ensures fault { IfErr result (λ back. IsOpenFault clerks windows back.1) }
         ensures refuses { (n : ℕ) → IsWrong clerks windows n → IsErrAnd result (λ back. back.1 ≡ Places n) }
@@ -104,14 +106,17 @@ impl<'a, H: Allocator, J: Naming<H>, R: Wait + Drop> Office<'a, H, J, R> {
         ensures made { IfOk result (λ receipt. card.new ≡ with_made card.old receipt.entry card.new.met) }
         // The card has met the journal as it is then: what it had met before begins it, and an entry ends it.
         ensures met { IsPrefix card.old.met card.new.met }
-        ensures ends { IfOk result (λ receipt. EndsWith receipt.entry receipt.entry.number (journal_met J.office card.new)) }
+        ensures ends { IfOk result (λ receipt. EndsWith receipt.entry receipt.entry.number
+            (journal_met J.office card.new)) }
         ensures after { IfOk result (λ receipt. IsSometime J.office card.new (journal_met J.office card.new)) }
         ensures told { IfOk result (λ receipt. receipt.published ≡ true
             → EndsWith receipt.entry receipt.entry.number receipt.told) }
-        ensures sometime { IfOk result (λ receipt. receipt.published ≡ true → IsSometime J.office card.new receipt.told) }
+        ensures sometime { IfOk result (λ receipt. receipt.published ≡ true
+            → IsSometime J.office card.new receipt.told) }
         ensures unpublished { IfOk result (λ receipt. receipt.published ≢ true → receipt.told ≡ []) }
         ensures unchanged { OnErr result (card.new ≡ with_met card.old card.new.met) }
-        ensures refusal { IfErr result (λ refusal. IsRefusedWhenMet J.office card.new edit.now refusal ⊎ (refusal ≡ NoMemory)) }
+        ensures refusal { IfErr result (λ refusal. IsRefusedWhenMet J.office card.new edit.now refusal
+            ⊎ (refusal ≡ NoMemory)) }
     {
         let mut desk = self.desk.lock(rt);
         desk.submit(card, edit)
@@ -144,7 +149,8 @@ impl<'a, H: Allocator, J: Naming<H>, R: Wait + Drop> Office<'a, H, J, R> {
         ensures ends { IfOk result (λ entry. EndsWith entry entry.number (journal_met J.office card.new)) }
         ensures after { IfOk result (λ entry. IsSometime J.office card.new (journal_met J.office card.new)) }
         ensures unchanged { OnErr result (card.new ≡ with_met card.old card.new.met) }
-        ensures refusal { IfErr result (λ refusal. IsRefusedWhenMet J.office card.new edit.now refusal ⊎ (refusal ≡ NoMemory)) }
+        ensures refusal { IfErr result (λ refusal. IsRefusedWhenMet J.office card.new edit.now refusal
+            ⊎ (refusal ≡ NoMemory)) }
     {
         let mut desk = self.desk.lock(rt);
         let entered = desk.edit(card, edit);
@@ -197,7 +203,7 @@ impl<'a, H: Allocator, J: Naming<H>, R: Wait + Drop> Office<'a, H, J, R> {
     ///
     /// # Errors
     ///
-    /// [`AllocError`] where an allocation is refused.
+    /// [`AllocError`] where an allocation fails.
     ///
     /// ```
     /// let sheet = office.sheet(rt, cards.as_mut_slice())?;

@@ -1,5 +1,6 @@
 //! Opening an office.
-ghost use Rattle.std.specs.Prelude.{◌≡◌, ◌⊎◌, ◌↔◌, ℕ, ◌+◌, ◌<◌, ◌≤◌, ◌^◌, [], ◌∷◌, ◌++◌, replicate, IfOk, IfErr, OnOk, IsOk, IsTrue};
+ghost use Rattle.std.specs.Prelude.{◌≡◌, ◌⊎◌, ◌↔◌, ℕ, ◌+◌, ◌<◌, ◌≤◌, ◌^◌, [], ◌∷◌, ◌++◌, replicate, IfOk, IfErr};
+ghost use Rattle.std.specs.Prelude.{OnOk, IsOk, IsTrue};
 ghost use Rattle.desk_lock.specs.declared.opening.OpenFault.{OpenFault};
 ghost use Rattle.desk_lock.specs.declared.opening.OpenFault.TheVariants.{Places, NoWindow, NoMemory};
 ghost use Rattle.desk_lock.specs.Offices.{origin_of, fresh_cards, window_of};
@@ -29,7 +30,7 @@ pub enum OpenFault {
     Places(usize),
     /// K3: the window of this number, from 1, was given no reader.
     NoWindow(usize),
-    /// An allocation was refused.
+    /// An allocation failed.
     NoMemory,
 }
 

@@ -1,4 +1,4 @@
-//! Windows, at which it is asked where a place lies, and which ring a parcel has.
+//! Windows, at which it is asked where a point lies, and which ring a parcel has.
 ghost use Rattle.std.specs.Prelude.{◌≡◌, ◌≢◌, ◌<◌, ◌≤◌, ◌++◌, length, IfOk, IfErr, IfSome, MatchBool, MatchOption};
 ghost use Rattle.std.specs.List.{Contains};
 ghost use mathlib.Core.List.{IsPrefix};
@@ -30,7 +30,7 @@ pub enum LocateFault {
     /// K4: there is no version to answer from, as may be once the office is closed, or none as new as
     /// what the window was told.
     NoVersion,
-    /// An allocation was refused.
+    /// An allocation failed.
     NoMemory,
 }
 
@@ -48,7 +48,7 @@ impl From<AllocError> for LocateFault {
 /// A version of an office's fabric.
 type VersionOf<'a, H, J> = Version<Copied<'a, H, J>, Entry<&'a H>, J>;
 
-/// A window of an office: it answers where a place lies and which ring a parcel has, from a published
+/// A window of an office: it answers where a point lies and which ring a parcel has, from a published
 /// version, and waits for nobody. It may go to a thread of its own.
 ///
 /// Contracts see the state in which the office's fabric was opened, and the entries that the
@@ -118,9 +118,11 @@ impl<'a, H: Allocator, J: Naming<H>> Window<'a, H, J> {
         ensures begins { IsPrefix self.old.seen self.new.seen }
         ensures count { IfOk result (λ entries. entries ≡ length self.new.seen) }
         ensures lawful { IfOk result (λ entries. IsLawful self.new.opening self.new.seen) }
-        ensures of_clerks { IfOk result (λ entries. AreOfClerks J.office.clerks (behind J.office.origin self.new.seen)) }
+        ensures of_clerks { IfOk result (λ entries. AreOfClerks J.office.clerks
+            (behind J.office.origin self.new.seen)) }
         // The parcels that it answers from tile the city.
-        ensures tiling { IfOk result (λ entries. IsTiling (replay self.new.opening self.new.seen).rows J.office.origin.city) }
+        ensures tiling { IfOk result (λ entries. IsTiling (replay self.new.opening self.new.seen).rows
+            J.office.origin.city) }
         ensures fault { IfErr result (λ fault. fault ≡ NoVersion) }
         ensures no_version { IfErr result (λ fault. fault ≡ NoVersion → self.new ≡ self.old) }
     {
@@ -149,7 +151,8 @@ impl<'a, H: Allocator, J: Naming<H>> Window<'a, H, J> {
         ensures lawful { IfOk result (λ answer. IsLawful self.new.opening self.new.seen) }
         ensures of_clerks { IfOk result (λ answer. AreOfClerks J.office.clerks (behind J.office.origin self.new.seen)) }
         // The parcels that it answers from tile the city.
-        ensures tiling { IfOk result (λ answer. IsTiling (replay self.new.opening self.new.seen).rows J.office.origin.city) }
+        ensures tiling { IfOk result (λ answer. IsTiling (replay self.new.opening self.new.seen).rows
+            J.office.origin.city) }
         ensures parcel { IfOk result (λ answer. MatchOption answer.1
             ((row : NumberedRing) → Contains (replay self.new.opening self.new.seen).rows row → row.number ≢ id)
             (λ ring. Contains (replay self.new.opening self.new.seen).rows (numbered id ring))) }
@@ -172,7 +175,7 @@ impl<'a, H: Allocator, J: Naming<H>> Window<'a, H, J> {
     ///
     /// [`LocateFault::NoVersion`] (K4) where there is no version, as may be once the office is
     /// closed, or none as new as what this window was told: nothing has changed then. And
-    /// [`LocateFault::NoMemory`] where an allocation is refused; the window may have seen more
+    /// [`LocateFault::NoMemory`] where an allocation fails; the window may have seen more
     /// entries then.
     ///
     /// ```
@@ -187,7 +190,8 @@ impl<'a, H: Allocator, J: Naming<H>> Window<'a, H, J> {
         ensures lawful { IfOk result (λ answer. IsLawful self.new.opening self.new.seen) }
         ensures of_clerks { IfOk result (λ answer. AreOfClerks J.office.clerks (behind J.office.origin self.new.seen)) }
         // The parcels that it answers from tile the city.
-        ensures tiling { IfOk result (λ answer. IsTiling (replay self.new.opening self.new.seen).rows J.office.origin.city) }
+        ensures tiling { IfOk result (λ answer. IsTiling (replay self.new.opening self.new.seen).rows
+            J.office.origin.city) }
         ensures at { IfOk result (λ answer.
             IsLocatedAt (replay self.new.opening self.new.seen).rows (corner_point corner) answer.1) }
         ensures no_version { IfErr result (λ fault. fault ≡ NoVersion → self.new ≡ self.old) }

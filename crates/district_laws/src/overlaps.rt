@@ -19,9 +19,11 @@ pub fn pairs_of_districts_are_the_pairs_of_their_city()
         → Contains districts one → Contains districts other
         → Contains one.parcels.rows parcel → Contains other.zones zone
         → InteriorsMeet parcel.corners zone.corners → one ≡ other }
-    ensures overlaps { (districts : List ZonedDistrict) (city : List Corner) (id zone : ℕ) → AreZonedDistricts districts city
+    ensures overlaps { (districts : List ZonedDistrict) (city : List Corner) (id zone : ℕ)
+        → AreZonedDistricts districts city
         → Overlaps (all_rows (parcel_layers districts)) (all_rows (zone_layers districts)) id zone
-        ↔ ((district : ZonedDistrict) × Contains districts district × Overlaps district.parcels.rows district.zones id zone) }
+        ↔ ((district : ZonedDistrict) × Contains districts district
+        × Overlaps district.parcels.rows district.zones id zone) }
     ensures tables { (districts : List ZonedDistrict) (city : List Corner) (pairs : List (ℕ × ℕ))
         (table : ZonedDistrict → List (ℕ × ℕ)) (id zone : ℕ) → AreZonedDistricts districts city
         → IsOverlapTable (all_rows (parcel_layers districts)) (all_rows (zone_layers districts)) pairs
@@ -41,5 +43,6 @@ pub fn cutting_zones_changes_no_pair()
         → AreZonedDistricts districts city → AllByRecursion IsCutZone zones
         → ((piece : NumberedRing) → Contains (all_rows zones) piece ↔ Contains (all_rows (zone_layers districts)) piece)
         → Overlaps (all_rows (parcel_layers districts)) (district_rows zones) id zone
-        ↔ ((district : ZonedDistrict) × Contains districts district × Overlaps district.parcels.rows district.zones id zone) }
+        ↔ ((district : ZonedDistrict) × Contains districts district
+        × Overlaps district.parcels.rows district.zones id zone) }
 {}

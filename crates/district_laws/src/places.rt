@@ -38,10 +38,12 @@ pub fn rows_lie_in_the_ring_that_they_tile()
 /// Of the rows of all districts, those that have inside, or on an edge, a point that is inside a district are that
 /// district's own, whatever their numbers are. Of those that have it inside no ring need be simple.
 pub fn rows_at_a_point_inside_a_district_are_its_own()
-    ensures inside { (districts : List District) (city : List Corner) (district : District) (p : Point) (row : NumberedRing)
+    ensures inside { (districts : List District) (city : List Corner) (district : District) (p : Point)
+        (row : NumberedRing)
         → AreDistricts districts city → Contains districts district → IsInterior p district.row.corners
         → Contains (all_rows districts) row → IsInterior p row.corners → Contains district.rows row }
-    ensures edges { (districts : List District) (city : List Corner) (district : District) (p : Point) (row : NumberedRing)
+    ensures edges { (districts : List District) (city : List Corner) (district : District) (p : Point)
+        (row : NumberedRing)
         → AreDistricts districts city → AreSimpleDistricts districts → Contains districts district
         → IsInterior p district.row.corners
         → Contains (all_rows districts) row → IsOnRing p row.corners → Contains district.rows row }
@@ -57,20 +59,22 @@ pub fn a_point_inside_a_district_is_located_by_it<A: Allocator>()
         → AreDistricts districts city → AreSimpleDistricts districts → Contains districts district
         → IsInterior p district.row.corners
         → IsOnEdgeOf (all_rows districts) p id ↔ IsOnEdgeOf district.rows p id }
-    ensures located { (districts : List District) (city : List Corner) (district : District) (p : Point) (at : AtValue A)
+    ensures located { (districts : List District) (city : List Corner) (district : District)
+        (p : Point) (at : AtValue A)
         → AreDistricts districts city → AreSimpleDistricts districts → Contains districts district
         → IsInterior p district.row.corners
         → IsLocatedAt (all_rows districts) p at ↔ IsLocatedAt district.rows p at }
 {}
 
 /// On a district's edge a point is on an edge of a row of that district, so that among the rows of all it is located on
-/// edges, too, and inside none. The rows that have it on an edge are those of each district that do, and a district that
-/// does not have it on its own edge has none of them.
+/// edges, too, and inside none. The rows that have it on an edge are those of each district that do, and a district
+/// that does not have it on its own edge has none of them.
 pub fn a_point_on_a_districts_edge_is_on_an_edge_of_its_rows<A: Allocator>()
     ensures own { (districts : List District) (city : List Corner) (district : District) (p : Point)
         → AreDistricts districts city → AreSimple (district_rows districts) → Contains districts district
         → IsOnRing p district.row.corners → (id : ℕ) × IsOnEdgeOf district.rows p id }
-    ensures located { (districts : List District) (city : List Corner) (district : District) (p : Point) (at : AtValue A)
+    ensures located { (districts : List District) (city : List Corner) (district : District)
+        (p : Point) (at : AtValue A)
         → AreDistricts districts city → AreSimple (district_rows districts) → Contains districts district
         → IsOnRing p district.row.corners → IsLocatedAt (all_rows districts) p at
         → ((id : ℕ) → at ≢ Inside id) × (at ≢ Outside) }

@@ -3,3 +3,4 @@ pub mod EdgeJumps
 pub mod Steep
 pub mod Level
 pub mod Jumps
+pub mod Alike

@@ -1,4 +1,5 @@
 pub mod NodedEdges
 pub mod NodedRings
 pub mod NodedLists
+pub mod EachNoded
 pub mod Slices

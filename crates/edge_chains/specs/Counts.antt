@@ -16,7 +16,8 @@ is_edge_before p q = is_before p.0 q.0 || (is_same p.0 q.0 && is_before p.1 q.1)
 abbrev pub is_same_edge : Corner × Corner → Corner × Corner → Bool
 is_same_edge p q = is_same p.0 q.0 && is_same p.1 q.1
 
--- the edges a, b with a before b whose number is not 0, with that number; and how many edges were added and taken so far
+-- the edges a, b with a before b whose number is not 0, with that number; and how
+-- many edges were added and taken so far
 pub record Counts : Type 0 where
   pub counts : List ((Corner × Corner) × ℤ)
   pub edges : ℕ
@@ -35,7 +36,8 @@ net_at counts a b =
 -- the counts as an `EdgeSum` keeps them, a map without repeated edges: each edge has its lesser corner first, and a
 -- number other than 0 of size n at most
 pub record AreCounts (counts : List ((Corner × Corner) × ℤ)) (n : ℕ) : Type 0 where
-  pub in_order : (edge : Corner × Corner) → IsSome (lookup (is_same_edge edge) counts) → IsTrue (is_before edge.0 edge.1)
+  pub in_order : (edge : Corner × Corner) → IsSome (lookup (is_same_edge edge) counts)
+      → IsTrue (is_before edge.0 edge.1)
   pub no_zero : (edge : Corner × Corner) → lookup (is_same_edge edge) counts ≢ Some (pos 0)
   pub small : (edge : Corner × Corner) → IsWithin n (number_at counts edge.0 edge.1)
 
@@ -48,4 +50,5 @@ pub record IsFirstUnbalanced (sum : Counts) (a b : Corner) (n : ℤ) : Type 0 wh
   pub in_order : IsTrue (is_before a b)
   pub number : net_at sum.counts a b ≡ n
   pub is_unbalanced : n ≢ pos 0
-  pub is_least : (c d : Corner) → IsTrue (is_before c d) → net_at sum.counts c d ≢ pos 0 → ¬ IsTrue (is_edge_before (c, d) (a, b))
+  pub is_least : (c d : Corner) → IsTrue (is_before c d) → net_at sum.counts c d ≢ pos 0
+      → ¬ IsTrue (is_edge_before (c, d) (a, b))

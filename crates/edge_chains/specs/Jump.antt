@@ -11,7 +11,8 @@ use Rattle.geo_exact.specs.Turn.{turn_at, IsOnEdge, IsOnSome}
 use Rattle.geo_exact.specs.Segments.{IsInsideEdge, IsHalfway, IsOnSegment}
 use Rattle.edge_chains.specs.Net.{all_edges, net_count, winding_of_rings}
 
--- one point is left and one right of the edge from a to b, and the place halfway between them is on the edge and neither of its ends
+-- one point is left and one right of the edge from a to b, and the place halfway between them is on the edge and
+-- neither of its ends
 pub record AreBeside (left right : Point) (a b : Corner) : Type 0 where
   pub is_left : pos 0 <ℤ turn_at a b left
   pub is_right : turn_at a b right <ℤ pos 0
@@ -41,4 +42,5 @@ pub record IsJump (added taken : List (List Corner)) (a b : Corner) (left right 
   pub left_is_off : ¬ IsOnSome left (all_edges (added ++ taken))
   pub right_is_off : ¬ IsOnSome right (all_edges (added ++ taken))
   pub no_other_between : MeetsOnly left right (all_edges (added ++ taken)) a b
-  pub changes : winding_difference left added taken -ℤ winding_difference right added taken ≡ net_difference added taken a b
+  pub changes : winding_difference left added taken -ℤ winding_difference right added taken
+      ≡ net_difference added taken a b

@@ -7,7 +7,8 @@ use Rattle.geo_exact.specs.Rings.{Edge, edges}
 use Rattle.geo_exact.specs.Segments.{IsStrictlyInside}
 use Rattle.edge_chains.specs.Net.{all_edges}
 
--- corners in order along the edge from a to b, each once: the first strictly inside it, the others so inside what is left of it
+-- corners in order along the edge from a to b, each once: the first strictly inside it,
+-- the others so inside what is left of it
 abbrev pub AreAlong : Corner → List Corner → Corner → Type 0
 AreAlong a [] b = ⊤
 AreAlong a (c ∷ rest) b = IsStrictlyInside c a b × AreAlong c rest b
@@ -21,7 +22,8 @@ pub record IsNodedEdge (corners : List Corner) (edge : Edge) (inserted : List Co
 abbrev pub AreNodedEdges : List Corner → List Edge → List Corner → Type 0
 AreNodedEdges corners [] out = out ≡ []
 AreNodedEdges corners (edge ∷ rest) out =
-    (inserted : List Corner) × (others : List Corner) × IsNodedEdge corners edge inserted × AreNodedEdges corners rest others
+    (inserted : List Corner) × (others : List Corner) × IsNodedEdge corners edge inserted
+    × AreNodedEdges corners rest others
     × (out ≡ edge.from ∷ inserted ++ others)
 
 -- `noded` is the ring with exactly those of the corners inserted that lie strictly inside an edge, in order along it

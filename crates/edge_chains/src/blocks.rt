@@ -1,6 +1,7 @@
 //! Corners for many searches, in blocks of neighbours with a box round each.
 
-ghost use Rattle.std.specs.Prelude.{◌≡◌, ◌↔◌, ℕ, ◌+◌, ◌*◌, ◌<◌, ◌≤◌, List, length, map, slice_index, slice_index_or, IfOk, IfSome};
+ghost use Rattle.std.specs.Prelude.{◌≡◌, ◌↔◌, ℕ, ◌+◌, ◌*◌, ◌<◌, ◌≤◌, List, length, map, slice_index};
+ghost use Rattle.std.specs.Prelude.{slice_index_or, IfOk, IfSome};
 ghost use Rattle.std.specs.List.{filter, Contains};
 ghost use Rattle.edge_chains.specs.own.Inside.{is_strictly_inside};
 ghost use Rattle.geo_exact.specs.Bounds.{holds_corner, HoldsCorner};

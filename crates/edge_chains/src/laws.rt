@@ -42,3 +42,16 @@ pub fn an_unbalanced_edge_is_a_jump()
         → net_difference added taken a b ≢ pos 0
         → (left : Point) × (right : Point) × IsJump added taken a b left right }
 {}
+
+/// And the other way round: in rings that are noded for all of their corners, net numbers of directed edges are equal
+/// where the rings of both sides together go round each point equally often.
+pub fn rings_that_wind_alike_have_equal_nets()
+    ensures { (added taken : List (List Corner)) → AreFullyNoded (added ++ taken)
+        → ((p : Point) → winding_of_rings p added ≡ winding_of_rings p taken)
+        → (a b : Corner) → net_count added a b ≡ net_count taken a b }
+{}
+
+/// Each ring is noded for whatever corners, in some way.
+pub fn each_ring_is_noded()
+    ensures { (ring corners : List Corner) → (noded : List Corner) × IsNoded ring corners noded }
+{}

@@ -17,5 +17,8 @@ mod steps;
 mod tree;
 
 pub use edge_sum::EdgeSum;
-pub use laws::{an_unbalanced_edge_is_a_jump, equal_nets_cover_alike, noding_changes_no_ground};
+pub use laws::{
+    an_unbalanced_edge_is_a_jump, each_ring_is_noded, equal_nets_cover_alike,
+    noding_changes_no_ground, rings_that_wind_alike_have_equal_nets,
+};
 pub use noding::{node, node_by};

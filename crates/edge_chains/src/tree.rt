@@ -158,7 +158,8 @@ fn leaning_boxes<A: Allocator>(
 fn box_at(corners: &[Corner], ends: &[usize], group: usize) -> LeaningBox
     requires ends { AreEnds (length corners.now) ends.now }
     requires in_list { group < length ends.now }
-    ensures { group * GROUP < length corners.now → (k : ℕ) (c : CornerValue) → group * GROUP ≤ k → k < slice_index ends.now group
+    ensures { group * GROUP < length corners.now → (k : ℕ) (c : CornerValue) → group * GROUP ≤ k
+        → k < slice_index ends.now group
         → IsHeld result (slice_index_or corners.now k c) }
 {
     let start = group * GROUP;

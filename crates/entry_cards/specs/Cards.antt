@@ -1,21 +1,21 @@
--- Clerks' cards, tied to one list of entries (this product's own): a keeper knows the whole list, each entry behind its clerk's number; a
--- clerk's stub knows the entries that were made with it, and they are all that the list has of its clerk; and it knows the list as it was
--- when stub and keeper last met, which is a beginning of the list.
+-- Clerks' cards, tied to one list of entries (this product's own): a keeper knows the whole list, each entry behind its
+-- clerk's number; a clerk's stub knows the entries that were made with it, and they are all that the list has of its
+-- clerk; and it knows the list as it was when stub and keeper last met, which is a beginning of the list.
 use Rattle.std.specs.Prelude.{◌≡◌, ℕ, ◌≤◌, nat_eq, List, map, filter, length, count_by, sum_by, All}
 use mathlib.Core.List.{IsPrefix}
 use Rattle.atomic_table.specs.Seated.{TableId}
 use Rattle.entry_cards.specs.declared.view.Card.{Card}
 
--- what a keeper shows: its name, which no other keeper has, how many clerks there are, how many of them were dealt their stub, and all
--- entries that were made since it was opened, each behind its clerk's number, in order
+-- what a keeper shows: its name, which no other keeper has, how many clerks there are, how many of them were dealt
+-- their stub, and all entries that were made since it was opened, each behind its clerk's number, in order
 pub record Kept (E : Type 0) : Type 0 where
   pub name : TableId
   pub clerks : ℕ
   pub dealt : ℕ
   pub all : List (ℕ × E)
 
--- what a stub shows: its keeper's name, its clerk's number, the entries that were made with it, and all entries that its keeper had when
--- they last met, each in order
+-- what a stub shows: its keeper's name, its clerk's number, the entries that were made with it, and all entries that
+-- its keeper had when they last met, each in order
 pub record Own (E : Type 0) : Type 0 where
   pub name : TableId
   pub clerk : ℕ
@@ -56,8 +56,8 @@ module _ {E : Type 0} where
   abbrev pub times : ℕ → List (Card E) → ℕ
   times clerk cards = count_by (λ card. nat_eq clerk card.clerk) cards
 
-  -- the cards are those of the clerks from 1 to n, one of each, every card has all entries of its clerk, what it met begins all entries, and
-  -- together they have all entries
+  -- the cards are those of the clerks from 1 to n, one of each, every card has all entries of its clerk, what it met
+  -- begins all entries, and together they have all entries
   pub record AccountFor (n : ℕ) (all : List (ℕ × E)) (cards : List (Card E)) : Type 0 where
     pub agree : All (HasAll all) cards
     pub met : All (HasMet all) cards

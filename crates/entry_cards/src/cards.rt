@@ -2,8 +2,8 @@
 
 ghost use Rattle.std.specs.Prelude.{◌≡◌, ◌<◌, true, [], length, IfOk};
 ghost use mathlib.Core.Option.{some};
-ghost use Rattle.entry_cards.specs.own.Rule.{keeper_view, blank_cards, joined, without_first, first_of, with_all_met, with_more};
-ghost use Rattle.entry_cards.specs.own.Rule.{AreKnown};
+ghost use Rattle.entry_cards.specs.own.Rule.{keeper_view, blank_cards, joined, without_first, first_of};
+ghost use Rattle.entry_cards.specs.own.Rule.{with_all_met, with_more, AreKnown};
 
 use crate::plays::{AddEntry, CardOff, Compare, Meet, NamesEntry, Rule, Together};
 use crate::view::View;

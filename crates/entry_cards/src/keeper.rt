@@ -43,7 +43,7 @@ impl<E, A: Allocator> Keeper<E, A> {
     ///
     /// # Errors
     ///
-    /// [`AllocError`] where an allocation is refused.
+    /// [`AllocError`] where an allocation fails.
     pub fn new(alloc: A, clerks: u32) -> Result<Keeper<E, A>, AllocError>
         ensures clerks { IfOk result (λ keeper. keeper.clerks ≡ clerks) }
         ensures none_dealt { IfOk result (λ keeper. keeper.dealt ≡ 0) }

@@ -8,7 +8,7 @@ use crate::steps::{Add, Law, Nothing};
 use logbook::{Offer, Seen};
 use std::marker::{Model, PhantomData};
 
-/// A beginning of the list. Contracts see it as its entries.
+/// A beginning of the list: what it had at some moment, whatever was added since. Contracts see it as its entries.
 #[derive(Drop)]
 pub struct Front<E, J: Naming> {
     count: u64,

@@ -4,3 +4,4 @@ pub mod edits
 pub mod rows
 pub mod places
 pub mod tens
+pub mod Crossing

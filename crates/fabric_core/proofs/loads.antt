@@ -12,3 +12,4 @@ pub mod ToldGaps
 pub mod LoadRefusals
 pub mod Clipped
 pub mod Shared
+pub mod RingSlices

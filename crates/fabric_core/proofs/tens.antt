@@ -2,3 +2,4 @@ pub mod Corners
 pub mod Rows
 pub mod Journals
 pub mod Kept
+pub mod Farthest

@@ -1,4 +1,5 @@
--- What an accepted edit makes of a fabric, and which journals are lawful (this product's own; what it makes of rings is ring_edits').
+-- What an accepted edit makes of a fabric, and which journals are lawful (this product's own;
+-- what it makes of rings is ring_edits').
 use Rattle.std.specs.Prelude.{◌≡◌, ◌≢◌, ⊤, ℕ, ◌+◌, ◌≤◌, List, [], ◌∷◌, map, length}
 use Rattle.std.specs.List.{AllByRecursion, Contains, filter}
 use Rattle.geo_exact.specs.declared.corner.Corner.{Corner}
@@ -16,7 +17,8 @@ use Rattle.fabric_core.specs.Faults.{AreSimple}
 use Rattle.fabric_core.specs.Journal.{State, JournalEntry, Book, after_entry}
 
 -- a parcel is cut in two along a path: left of it is the next id's, right of it that after the next
-pub record IsSplitOf (state : State) (id : ℕ) (path : List Corner) (out : List ℕ) (rows : List NumberedRing) : Type 0 where
+pub record IsSplitOf (state : State) (id : ℕ) (path : List Corner) (out : List ℕ)
+    (rows : List NumberedRing) : Type 0 where
   pub ring : List Corner
   pub has : Contains state.rows (numbered id ring)
   pub left : List Corner
@@ -37,7 +39,8 @@ pub record IsMergeOf (state : State) (a b : ℕ) (out : List ℕ) (rows : List N
   pub rows_are : rows ≡ numbered state.next ring ∷ []
 
 -- the border of two neighbours is moved to a path
-pub record IsMoveOf (state : State) (a b : ℕ) (path : List Corner) (out : List ℕ) (rows : List NumberedRing) : Type 0 where
+pub record IsMoveOf (state : State) (a b : ℕ) (path : List Corner) (out : List ℕ)
+    (rows : List NumberedRing) : Type 0 where
   pub ring_a : List Corner
   pub has_a : Contains state.rows (numbered a ring_a)
   pub ring_b : List Corner
@@ -57,15 +60,15 @@ pub record IsInsertOf (state : State) (from to at : Corner) (out : List ℕ) (ro
   pub two_ends : from ≢ to
   pub some : rows_with_edge from to state.rows ≢ []
   pub is_between : IsStrictlyInside at from to
-  pub rows_are : rows ≡ map (λ row. numbered row.number (with_corner from to at row.corners)) (rows_with_edge from to state.rows)
+  pub rows_are : rows
+      ≡ map (λ row. numbered row.number (with_corner from to at row.corners)) (rows_with_edge from to state.rows)
   pub out_are : out ≡ numbers rows
 
 -- the rows whose rings have the corner
 abbrev pub rows_at_corner : Corner → List NumberedRing → List NumberedRing
 rows_at_corner at rows = filter (λ row. has_corner at row.corners) rows
 
--- a corner is taken out of each parcel's ring that has it; no parcel's ring bends there, nor does the city's refined ring;
--- each parcel keeps its id
+-- a corner goes out of each ring that has it; no ring bends there, nor the city's refined one; parcels keep their ids
 pub record IsStraightenOf (state : State) (at : Corner) (out : List ℕ) (rows : List NumberedRing) : Type 0 where
   pub some : rows_at_corner at state.rows ≢ []
   pub straight : AllByRecursion (λ row. ¬ BendsAt at row.corners) state.rows
@@ -86,16 +89,14 @@ pub record AreWithinLayerLimits (rows : List NumberedRing) : Type 0 where
   pub corners : AreWithinLimits rows
   pub number : length rows ≤ LAYER_RECORDS
 
--- the entry is that of its edit on the state: it has a place in a journal, takes out and brings what the edit does,
--- simple rings, and the limits are kept
+-- the entry is its edit's on the state: it has room in a journal, and the edit's change; rings are simple, limits kept
 pub record IsEntryOf {A : Type 0} (state : State) (entry : JournalEntry A) : Type 0 where
   pub has_place : entry.number ≤ JOURNAL_ENTRIES
   pub is_change : IsChange state entry.edit entry.out entry.rows
   pub are_simple : AreSimple entry.rows
   pub within : AreWithinLayerLimits (after_entry state entry).rows
 
--- entries that begin with this number at this state: each has the number after the one before, and is that of its
--- edit on the state which those before it lead to
+-- entries from this number on at this state, in turn, each its edit's on the state that those before it lead to
 abbrev pub AreLawfulFrom : {A : Type 0} → State → ℕ → List (JournalEntry A) → Type 0
 AreLawfulFrom state number [] = ⊤
 AreLawfulFrom state number (entry ∷ rest) =

@@ -1,4 +1,5 @@
--- Why a ring is no city, and why the rows of a layer are not loaded: the first reason that applies (this product's own order).
+-- Why a ring is no city, and why the rows of a layer are not loaded: the first reason
+-- that applies (this product's own order).
 use Rattle.std.specs.Prelude.{◌≡◌, ◌≢◌, ◌↔◌, ℕ, ℤ, pos, IsTrue, List, [], ◌∷◌, ◌++◌, map, Option, None, Some, Vec}
 use Rattle.std.specs.List.{AllByRecursion, Contains}
 use Rattle.std.specs.List.Sorted.{IsStrictlyIncreasing}
@@ -98,7 +99,8 @@ abbrev pub AreAllFaults : {A : Type 0} → List NumberedRing → List Corner →
 AreAllFaults rows refined (TooMany number) all = all ≡ None
 AreAllFaults {A} rows refined (Ring number fault) all = (faults : Vec (ℕ × RingFault) A) × (rest : List (ℕ × RingFault))
     × (all ≡ Some (Rings faults)) × (faults.items ≡ (number, fault) ∷ rest) × AreRingFaults rows faults.items
-AreAllFaults {A} rows refined (Gap a b net) all = (gaps : Vec (Corner × Corner × ℤ) A) × (rest : List (Corner × Corner × ℤ))
+AreAllFaults {A} rows refined (Gap a b net) all =
+    (gaps : Vec (Corner × Corner × ℤ) A) × (rest : List (Corner × Corner × ℤ))
     × (all ≡ Some (Gaps gaps)) × (gaps.items ≡ (a, b, net) ∷ rest) × AreGaps rows refined gaps.items
 AreAllFaults rows refined NoMemory all = all ≡ None
 
@@ -108,7 +110,8 @@ AreAsked Asked.First rows refined first all = all ≡ None
 AreAsked Asked.All rows refined first all = AreAllFaults rows refined first all
 
 -- the refusal of the layer of these records in this city: its first fault, and what is asked for beside it
-pub record IsLoadRefusal {A : Type 0} (asked : Asked) (records : List NumberedRing) (city : List Corner) (refusal : LoadRefusal A) : Type 0 where
+pub record IsLoadRefusal {A : Type 0} (asked : Asked) (records : List NumberedRing) (city : List Corner)
+    (refusal : LoadRefusal A) : Type 0 where
   pub rows : List NumberedRing
   pub refined : List Corner
   pub are_refined : AreRefined records city rows refined

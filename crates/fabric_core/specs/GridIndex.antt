@@ -13,7 +13,7 @@ pub record IsEntryOf (row : NumberedRing) (entry : IndexEntry) : Type 0 where
   pub has_id : entry.key ≡ row.number
   pub is_its_box : IsLeastBox entry.bounds row.corners
 
--- The index agrees with the rows: its area is the city's least box, and in its cells stand exactly the rows' least boxes, under their ids.
+-- The index's area is the city's least box, and in its cells stand exactly the rows' least boxes, under their ids.
 pub record IsIndexed (rows : List NumberedRing) (city : List Corner) (index : Grid) : Type 0 where
   pub area : IsLeastBox index.area city
   pub entries : List IndexEntry
@@ -29,7 +29,8 @@ pub record ReachesCell (rows : List NumberedRing) (area : Bounds) (i j id : ℕ)
   pub is_its_box : IsLeastBox box row.corners
   pub reaches : IsTrue (stands_in area i j box)
 
--- the parcel with this id stands, by its least box, in some cell between those of two corners, in the grid over the city's least box
+-- the parcel with this id stands, by its least box, in some cell between those of two corners, in the grid over the
+-- city's least box
 pub record IsCandidate (rows : List NumberedRing) (city : List Corner) (low high : Corner) (id : ℕ) : Type 0 where
   pub row : NumberedRing
   pub is_row : Contains rows row

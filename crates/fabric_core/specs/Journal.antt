@@ -8,7 +8,7 @@ use Rattle.ring_edits.specs.declared.edit.Edit.{Edit}
 use Rattle.ring_edits.specs.declared.edit.Edit.TheVariants.{Split, Merge, Move, Insert, Straighten}
 use Rattle.ring_edits.specs.Edits.{put_between, without_corner}
 
--- what a fabric is at a moment: its rows by ascending id, the city's refined ring, and the next id, above all that were given out
+-- what a fabric is at a moment: its rows by ascending id, the city's refined ring, and the next id, above all given out
 pub record State : Type 0 where
   pub rows : List NumberedRing
   pub refined : List Corner
@@ -44,8 +44,8 @@ abbrev pub with_rows : List NumberedRing → List NumberedRing → List Numbered
 with_rows [] rows = rows
 with_rows (row ∷ more) rows = with_rows more (with_row row rows)
 
--- the city's refined ring after an edit: a corner that is inserted is put into it too, where it has the edge, and one that is
--- taken out goes from it too, where it has it
+-- the city's refined ring after an edit: a corner that is inserted is put into it too, where it has the edge, and one
+-- that is taken out goes from it too, where it has it
 abbrev pub refined_by : {A : Type 0} → Edit A → List Corner → List Corner
 refined_by (Split id path) ring = ring
 refined_by (Merge a b) ring = ring
@@ -66,7 +66,7 @@ abbrev pub replay : {A : Type 0} → State → List (JournalEntry A) → State
 replay state [] = state
 replay state (entry ∷ rest) = replay (after_entry state entry) rest
 
--- what a fabric shows: the city's ring as it was read, the state in which it was opened, the state now, the grid index, and the journal
+-- what a fabric shows: the city's ring as read, the state when opened, the state now, the grid index, and the journal
 pub record Book (A : Type 0) : Type 0 where
   pub city : List Corner
   pub opening : State

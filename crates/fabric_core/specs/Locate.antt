@@ -1,5 +1,6 @@
--- Where a place lies among parcels: in the interior of one, on the boundary of some, or outside of all (OGC 06-103r4, 6.1.11, Polygon, for
--- interior and boundary). It is said over all rows; a row is a parcel's ring under the parcel's id.
+-- Where a point lies among parcels: in the interior of one, on the boundary of some, or outside of
+-- all (OGC 06-103r4, 6.1.11, Polygon, for interior and boundary). It is said over all rows; a row is
+-- a parcel's ring under the parcel's id.
 use Rattle.std.specs.Prelude.{◌≡◌, ◌≢◌, ◌↔◌, ℕ, List, []}
 use Rattle.std.specs.List.{Contains}
 use Rattle.std.specs.List.Sorted.{IsStrictlyIncreasing}
@@ -36,8 +37,8 @@ pub record IsInsideOneOnly (rows : List NumberedRing) (p : Point) : Type 0 where
   pub no_other : (other : ℕ) → IsInsideOf rows p other → other ≡ id
   pub no_edge : (other : ℕ) → ¬ IsOnEdgeOf rows p other
 
--- on edges, where p lies on any: of all parcels that have it there; else inside one that has it inside (in a tiling there is no other);
--- else outside
+-- on edges, where p lies on any: of all parcels that have it there; else inside one that has it inside (in a tiling
+-- there is no other); else outside
 abbrev pub IsLocatedAt : {A : Type 0} → List NumberedRing → Point → At A → Type 0
 IsLocatedAt rows p (OnEdge ids) = AreAllOnEdge rows p ids.items × (ids.items ≢ [])
 IsLocatedAt rows p (Inside id) = AreAllOnEdge rows p [] × IsInsideOf rows p id

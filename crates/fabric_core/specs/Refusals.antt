@@ -1,6 +1,6 @@
 -- Why an edit is refused: the first reason that applies, in this order (this product's own): the journal is full; an
--- id that it names is no parcel's; what the edit itself asks of paths, borders, edges and corners; the limits of a layer; a
--- new ring that is not simple.
+-- id that it names is no parcel's; what the edit itself asks of paths, borders, edges and corners; the limits of a
+-- layer; a new ring that is not simple.
 use Rattle.std.specs.Prelude.{◌≡◌, ◌≢◌, ◌⊎◌, ⊤, ℕ, ◌+◌, ◌<◌, ◌≤◌, List, [], ◌∷◌, ◌++◌, length}
 use Rattle.std.specs.List.{AllByRecursion, Contains}
 use Rattle.geo_exact.specs.declared.corner.Corner.{Corner}
@@ -63,13 +63,15 @@ IsBadCutPath state id path = (ring : List Corner) × Contains state.rows (number
 -- two parcels have no border that an edit can take, for this reason
 abbrev pub HaveBorderFault : State → ℕ → ℕ → EditFault → Type 0
 HaveBorderFault state a b fault =
-    (ring_a : List Corner) × (ring_b : List Corner) × Contains state.rows (numbered a ring_a) × Contains state.rows (numbered b ring_b)
+    (ring_a : List Corner) × (ring_b : List Corner) × Contains state.rows (numbered a ring_a)
+    × Contains state.rows (numbered b ring_b)
     × IsBorderFault ring_a ring_b fault
 
 -- a path that does not go from where the border of two parcels begins to where it ends
 abbrev pub IsBadMovePath : State → ℕ → ℕ → List Corner → Type 0
 IsBadMovePath state a b path =
-    (ring_a : List Corner) × (ring_b : List Corner) × Contains state.rows (numbered a ring_a) × Contains state.rows (numbered b ring_b)
+    (ring_a : List Corner) × (ring_b : List Corner) × Contains state.rows (numbered a ring_a)
+    × Contains state.rows (numbered b ring_b)
     × IsBadBorder ring_a ring_b path
 
 -- no parcel has the edge between two corners
@@ -96,8 +98,8 @@ IsBent state at refusal =
     ((id : ℕ) × (refusal ≡ NotFlat id) × IsFirstBent state.rows at id)
     ⊎ ((refusal ≡ NotFlat 0) × IsCityBent state at)
 
--- what the edit asks for itself, of paths, borders, edges and corners, is not so; it is looked at only where all ids that the
--- edit names are parcels'
+-- what the edit asks for itself, of paths, borders, edges and corners, is not so; it is looked at only where all ids
+-- that the edit names are parcels'
 abbrev pub IsOwnRefusal : {A : Type 0} → State → Edit A → Refusal → Type 0
 IsOwnRefusal state (Split id path) refusal = (refusal ≡ BadPath) × IsBadCutPath state id path
 IsOwnRefusal state (Merge a b) refusal =
@@ -133,8 +135,10 @@ IsChangeRefusal state out rows other = ⊥
 
 -- a refusal for the ids that are named: the first that is no parcel's was never one's, or was retired by this entry
 abbrev pub IsIdRefusal : {A : Type 0} → State → List (JournalEntry A) → Edit A → Refusal → Type 0
-IsIdRefusal state journal edit (Unknown id) = IsFirstAbsent state.rows (named_ids edit) id × ((by : ℕ) → ¬ IsRetiredBy journal id by)
-IsIdRefusal state journal edit (Retired id by) = IsFirstAbsent state.rows (named_ids edit) id × IsRetiredBy journal id by
+IsIdRefusal state journal edit (Unknown id) =
+    IsFirstAbsent state.rows (named_ids edit) id × ((by : ℕ) → ¬ IsRetiredBy journal id by)
+IsIdRefusal state journal edit (Retired id by) =
+    IsFirstAbsent state.rows (named_ids edit) id × IsRetiredBy journal id by
 IsIdRefusal state journal edit other = ⊥
 
 -- the edit is refused for this reason, in the state that the journal has led to (the two go together: a state with
@@ -144,9 +148,10 @@ IsRefusal {A} state journal edit refusal =
     ((refusal ≡ JournalFull) × (JOURNAL_ENTRIES ≤ length journal))
     ⊎ ((length journal < JOURNAL_ENTRIES) × (IsIdRefusal state journal edit refusal
     ⊎ (AreParcels state.rows (named_ids edit) × (IsOwnRefusal state edit refusal
-    ⊎ ((out : List ℕ) × (rows : List NumberedRing) × IsChange state edit out rows × IsChangeRefusal state out rows refusal)))))
+    ⊎ ((out : List ℕ) × (rows : List NumberedRing) × IsChange state edit out rows
+    × IsChangeRefusal state out rows refusal)))))
 
--- a refusal that is told before any memory is asked for: where one of these is due, memory cannot run out instead
+-- a refusal that is told whatever memory there is: where one of these is due, memory cannot run out instead
 abbrev pub NeedsNoMemory : Refusal → Type 0
 NeedsNoMemory JournalFull = ⊤
 NeedsNoMemory (Unknown id) = ⊤
@@ -154,4 +159,6 @@ NeedsNoMemory (Retired id by) = ⊤
 NeedsNoMemory BadPath = ⊤
 NeedsNoMemory NotNeighbours = ⊤
 NeedsNoMemory SharedTwice = ⊤
+NeedsNoMemory NoSuchEdge = ⊤
+NeedsNoMemory NoSuchCorner = ⊤
 NeedsNoMemory other = ⊥

@@ -1,4 +1,5 @@
--- The rows of a layer: its records' rings, noded for all corners of the layer and its city (this product's own; noding is edge_chains').
+-- The rows of a layer: its records' rings, noded for all corners of the layer and its city (this product's own; noding
+-- is edge_chains').
 use Rattle.std.specs.Prelude.{◌≡◌, ◌≢◌, ◌⊎◌, ℕ, List, ◌++◌, map, [], ◌∷◌}
 use Rattle.std.specs.List.{AllZip}
 use Rattle.geo_exact.specs.declared.corner.Corner.{Corner}
@@ -24,7 +25,8 @@ pub record IsRowOf (corners : List Corner) (record_ring row : NumberedRing) : Ty
   pub is_begun : row.corners ≡ begun_at_least noded
 
 -- the rows are those of the records, and the refined ring is the city's, noded for the same corners
-pub record AreRefined (records : List NumberedRing) (city : List Corner) (rows : List NumberedRing) (refined : List Corner) : Type 0 where
+pub record AreRefined (records : List NumberedRing) (city : List Corner) (rows : List NumberedRing)
+    (refined : List Corner) : Type 0 where
   pub are_rows : AllZip (IsRowOf (corners_of_layer records city)) records rows
   pub is_refined : IsNoded city (corners_of_layer records city) refined
 
@@ -32,7 +34,7 @@ pub record AreRefined (records : List NumberedRing) (city : List Corner) (rows :
 abbrev pub numbers : List NumberedRing → List ℕ
 numbers rows = map (λ row. row.number) rows
 
--- what a layer shows: its rows by ascending number, the city's ring as it was read, that ring refined, and the grid index
+-- what a layer shows: its rows by ascending number, the city's ring as read, that ring refined, and the grid index
 pub record Tiles : Type 0 where
   pub rows : List NumberedRing
   pub city : List Corner

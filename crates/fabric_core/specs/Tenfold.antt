@@ -1,5 +1,5 @@
--- A fabric and the same with each coordinate times ten: the register of a grid of centimetres, moved to one of millimetres (this product's
--- own; corners ten times are scaled_rings').
+-- A fabric and the same with each coordinate times ten: the register of a grid of centimetres, moved to one of
+-- millimetres (this product's own; corners ten times are scaled_rings').
 use Rattle.std.specs.Prelude.{◌≡◌, List, [], ◌∷◌, ◌++◌}
 use Rattle.std.specs.List.{AllZip}
 use Rattle.geo_exact.specs.declared.corner.Corner.{Corner}
@@ -46,13 +46,15 @@ corners_of_state state = corners_of_rows state.rows ++ state.refined
 
 abbrev pub corners_of_entries : {A : Type 0} → List (JournalEntry A) → List Corner
 corners_of_entries [] = []
-corners_of_entries (entry ∷ entries) = (corners_of_edit entry.edit ++ corners_of_rows entry.rows) ++ corners_of_entries entries
+corners_of_entries (entry ∷ entries) =
+    (corners_of_edit entry.edit ++ corners_of_rows entry.rows) ++ corners_of_entries entries
 
 abbrev pub corners_of_book : {A : Type 0} → Book A → List Corner
 corners_of_book book =
     book.city ++ corners_of_state book.opening ++ corners_of_state book.now ++ corners_of_entries book.journal
 
--- the fabric has corners too far from 0 to be ten times as far, of which this is the least; want of memory is no such fault
+-- the fabric has corners too far from 0 to be ten times as far, of which this is the
+-- least; want of memory is no such fault
 abbrev pub IsScaleFault : List Corner → ScaleFault → Type 0
 IsScaleFault corners (TooFar corner) = IsLeastFar corners corner
 IsScaleFault corners NoMemory = ⊥

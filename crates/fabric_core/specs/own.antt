@@ -8,3 +8,5 @@ pub mod EntryRows
 pub mod Changes
 pub mod Alike
 pub mod RingChanges
+pub mod Farthest
+pub mod RingSlices

@@ -15,7 +15,7 @@ use crate::gaps::check_nets;
 use crate::layer::{Layer, LoadFault, layer_of};
 use crate::limits::first_too_many;
 use crate::refine::Refined;
-use crate::rings::checked;
+use crate::rings::{checked, checked_shared};
 use geo_exact::{Bounds, Corner, Corners};
 use ring_core::{Ring, RingFault};
 use std::alloc::{AllocError, AllocFailed, Allocator};
@@ -130,6 +130,47 @@ fn without_fault<A: Allocator + Copy>(
     })
 }
 
+/// The same, by so many threads at the most.
+fn without_fault_by<A: Allocator + Copy + Send + Sync, R: Threads + Sync>(
+    rt: &R,
+    workers: usize,
+    alloc: A,
+    refined: Refined<A>,
+    asked: Asked,
+) -> Result<Faultless<A>, LoadRefusal<A>>
+    requires numbered { length refined.numbers.items ≡ length refined.rings.items }
+    requires rising { IsStrictlyIncreasing refined.numbers.items }
+    requires few { length refined.numbers.items ≤ LAYER_RECORDS }
+    requires city { IsRefinedCity refined.city refined.refined }
+    ensures checked { IfOk result (λ found.
+        IsChecked found.numbers.items (corners_of_rings found.rings.items) found.city found.refined) }
+    ensures numbers { IfOk result (λ found. found.numbers.items ≡ refined.numbers.items) }
+    ensures rings { IfOk result (λ found. corners_of_rings found.rings.items ≡ refined.rings.items) }
+    ensures city { IfOk result (λ found. found.city ≡ refined.city) }
+    ensures refined { IfOk result (λ found. found.refined ≡ refined.refined) }
+    ensures faults { IfErr result (λ refusal.
+        IsTold asked (numbered_rows refined.numbers.items refined.rings.items) refined.refined refusal
+        ⊎ IsOutOfMemory refusal) }
+{
+    let Refined {
+        numbers,
+        rings,
+        city,
+        refined,
+    } = refined;
+    if let Some(record) = first_too_many(&numbers, &rings) {
+        return Err(LoadRefusal::from(LoadFault::TooMany(record)));
+    }
+    let rings = checked_shared(rt, alloc, workers, &numbers, rings, asked)?;
+    check_nets(alloc, &rings, refined.as_slice(), asked)?;
+    Ok(Faultless {
+        numbers,
+        rings,
+        city,
+        refined,
+    })
+}
+
 /// The layer of rings that are noded and begun at their least corners, in a city that is refined.
 pub(crate) fn load_refined<'a, H: Allocator>(
     heap: &'a H,
@@ -142,7 +183,8 @@ pub(crate) fn load_refined<'a, H: Allocator>(
     requires few { length refined.numbers.items ≤ LAYER_RECORDS }
     requires city { IsRefinedCity refined.city refined.refined }
     requires area { IsLeastBox area refined.city }
-    ensures rows { IfOk result (λ layer. layer.rows ≡ numbered_rows refined.entry.numbers.items refined.entry.rings.items) }
+    ensures rows { IfOk result (λ layer. layer.rows
+        ≡ numbered_rows refined.entry.numbers.items refined.entry.rings.items) }
     ensures city { IfOk result (λ layer. layer.city ≡ refined.entry.city) }
     ensures refined { IfOk result (λ layer. layer.refined ≡ refined.entry.refined) }
     ensures no_fault { IfOk result (λ layer. HaveNoFault layer.rows layer.refined) }
@@ -178,7 +220,8 @@ pub(crate) fn load_refined_by<'a, H: Allocator + Send + Sync, R: Threads + Sync>
     requires few { length refined.numbers.items ≤ LAYER_RECORDS }
     requires city { IsRefinedCity refined.city refined.refined }
     requires area { IsLeastBox area refined.city }
-    ensures rows { IfOk result (λ layer. layer.rows ≡ numbered_rows refined.entry.numbers.items refined.entry.rings.items) }
+    ensures rows { IfOk result (λ layer. layer.rows
+        ≡ numbered_rows refined.entry.numbers.items refined.entry.rings.items) }
     ensures city { IfOk result (λ layer. layer.city ≡ refined.entry.city) }
     ensures refined { IfOk result (λ layer. layer.refined ≡ refined.entry.refined) }
     ensures no_fault { IfOk result (λ layer. HaveNoFault layer.rows layer.refined) }
@@ -188,7 +231,7 @@ pub(crate) fn load_refined_by<'a, H: Allocator + Send + Sync, R: Threads + Sync>
         IsTold asked (numbered_rows refined.entry.numbers.items refined.entry.rings.items) refined.entry.refined refusal
         ⊎ IsOutOfMemory refusal) }
 {
-    let found = without_fault(heap, refined, asked)?;
+    let found = without_fault_by(rt, workers, heap, refined, asked)?;
     let Faultless {
         numbers,
         rings,

@@ -16,8 +16,8 @@ ghost use Rattle.fabric_core.specs.Faults.{AreSimple};
 /// Simple rows that have the net edges of a city, whose own may be noded, lie in each box that
 /// holds the city's corners.
 ///
-/// Beyond the box the city goes round no place, and so no row does, nor any of the triangles that
-/// it is clipped to. But near a corner of a triangle there are places inside it.
+/// Beyond the box the city goes round no point, and so no row does, nor any of the triangles that
+/// it is clipped to. But near a corner of a triangle there are points inside it.
 pub fn rows_lie_in_the_box_of_their_city()
     ensures { (rows : List NumberedRing) (city corners refined : List Corner) (bounds : Bounds)
         → AreSimple rows → IsNoded city corners refined

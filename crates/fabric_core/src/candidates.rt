@@ -14,7 +14,8 @@ pub(crate) fn ids_under<A: Allocator + Copy>(
     parcels: &Parcels<A>,
     keys: &[usize],
 ) -> Result<Vec<u64, A>, AllocError>
-    requires { (key : ℕ) → Contains keys.now key → (parcel : ParcelValue A) × Contains parcels.now.parcels (key, parcel) }
+    requires { (key : ℕ) → Contains keys.now key → (parcel : ParcelValue A)
+        × Contains parcels.now.parcels (key, parcel) }
     ensures { IfOk result (λ ids. AllZip (IsIdOf parcels.now.parcels) keys.now ids.items) }
 {
     let mut ids = Vec::with_capacity(parcels.allocator(), keys.len())?;

@@ -12,7 +12,7 @@ use crate::tiled::Tiled;
 use std::alloc::{AllocError, Allocator};
 
 /// Makes a drafted edit, whose entry then stands last in the journal; how many corners all rings
-/// have together afterwards. Where an allocation is refused, nothing has changed.
+/// have together afterwards. Where an allocation fails, nothing has changed.
 pub(crate) fn carry_out<'a, H: Allocator>(
     tiled: &mut Tiled<'a, H>,
     journal: &mut Vec<Entry<&'a H>, &'a H>,

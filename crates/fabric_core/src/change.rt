@@ -1,6 +1,6 @@
 //! What an edit takes out of a fabric and what it brings, or why it is refused.
 
-ghost use Rattle.std.specs.Prelude.{◌≡◌, ◌+◌, ◌^◌, ◌<◌, ◌∷◌, [], map, List, IfOk, IfErr, IfSome, IfNone};
+ghost use Rattle.std.specs.Prelude.{◌≡◌, ◌≢◌, ◌+◌, ◌^◌, ◌<◌, ◌∷◌, [], map, List, IfOk, IfErr, IfSome, IfNone};
 ghost use Rattle.std.specs.Prelude.{IsErrOf};
 ghost use Rattle.geo_exact.specs.declared.corner.Corner.{Corner as CornerValue};
 ghost use Rattle.std.specs.List.{All, AllByRecursion, Contains};
@@ -8,15 +8,15 @@ ghost use Rattle.geo_exact.specs.Bounds.{HoldsCorner};
 ghost use Rattle.geo_exact.specs.Layers.{numbered};
 ghost use Rattle.fabric_core.specs.declared.refusal.Refusal.TheVariants.{BadPath, NoMemory};
 ghost use Rattle.fabric_core.specs.EditResults.{IsChange, IsSplitOf, IsMergeOf, IsMoveOf, IsInsertOf, IsStraightenOf};
-ghost use Rattle.fabric_core.specs.EditResults.{rows_at_corner};
+ghost use Rattle.fabric_core.specs.EditResults.{rows_at_corner, rows_with_edge};
 ghost use Rattle.fabric_core.specs.own.EntryRows.{rows_of_entry};
 ghost use Rattle.fabric_core.specs.Refusals.{named_ids, IsBadCutPath, IsFirstBent, IsOwnRefusal};
 ghost use Rattle.fabric_core.specs.Rows.{numbers};
 ghost use Rattle.ring_edits.specs.Edits.{BendsAt, IsBorderPath, IsPathAcross, ShareOneRun};
-ghost use Rattle.fabric_core.specs.own.Changes.{state_of, IsGone, IsTold, IsStopped, IsBorderRefusal, IsMoveRefusal, IsInsertRefusal};
-ghost use Rattle.fabric_core.specs.own.Changes.{AsksMemory, IsStraightenRefusal};
+ghost use Rattle.fabric_core.specs.own.Changes.{state_of, IsGone, IsTold, IsStopped, IsBorderRefusal, IsMoveRefusal};
+ghost use Rattle.fabric_core.specs.own.Changes.{IsInsertRefusal, AsksMemory, IsStraightenRefusal};
 
-use crate::edges::renewed_rows;
+use crate::edges::some_renewed_rows;
 use crate::journal::Row;
 use crate::refusal::Refusal;
 use crate::ring_change::RingChange;
@@ -152,7 +152,8 @@ fn merge_change<'a, H: Allocator>(
     ensures err { IfErr result (λ refusal.
         IsStopped tiled.now (a ∷ b ∷ []) (IsBorderRefusal (state_of tiled.now) a b refusal) refusal) }
     ensures memory { IsErrOf result NoMemory → (ring_a : List CornerValue) × (ring_b : List CornerValue)
-        × Contains tiled.now.rows (numbered a ring_a) × Contains tiled.now.rows (numbered b ring_b) × ShareOneRun ring_a ring_b }
+        × Contains tiled.now.rows (numbered a ring_a) × Contains tiled.now.rows (numbered b ring_b)
+        × ShareOneRun ring_a ring_b }
 {
     let first = here(tiled, a)?;
     let second = here(tiled, b)?;
@@ -218,14 +219,14 @@ fn insert_change<'a, H: Allocator>(
         IsInsertOf (state_of tiled.now) from to at change.out.items (rows_of_entry change.rows.items)) }
     ensures err { IfErr result (λ refusal.
         IsStopped tiled.now [] (IsInsertRefusal (state_of tiled.now) from to at refusal) refusal) }
+    ensures memory { IsErrOf result NoMemory → (from ≢ to) × (rows_with_edge from to tiled.now.rows ≢ []) }
 {
     if from == to {
         return Err(Refusal::NoSuchEdge);
     }
-    let rows = renewed_rows(alloc, tiled, RingChange::PutIn { from, to, at })?;
-    if rows.is_empty() {
+    let Some(rows) = some_renewed_rows(alloc, tiled, RingChange::PutIn { from, to, at })? else {
         return Err(Refusal::NoSuchEdge);
-    }
+    };
     if !is_between(from, to, at) {
         return Err(Refusal::NotOnEdge);
     }
@@ -251,7 +252,8 @@ fn first_bent<'a, H: Allocator>(tiled: &Tiled<'a, H>, ids: &[u64], at: Corner) -
     None
 }
 
-/// A corner taken out of the parcels that have it, where no ring bends there.
+/// A corner taken out of the parcels that have it, where no ring bends there. Where no parcel's does,
+/// nor does the city's refined ring: it is simple, and goes round each place as often as they do.
 fn straighten_change<'a, H: Allocator>(
     alloc: &'a H,
     tiled: &Tiled<'a, H>,
@@ -262,18 +264,16 @@ fn straighten_change<'a, H: Allocator>(
         IsStraightenOf (state_of tiled.now) at change.out.items (rows_of_entry change.rows.items)) }
     ensures err { IfErr result (λ refusal.
         IsStopped tiled.now [] (IsStraightenRefusal (state_of tiled.now) at refusal) refusal) }
+    ensures memory { IsErrOf result NoMemory → rows_at_corner at tiled.now.rows ≢ [] }
 {
-    let rows = renewed_rows(alloc, tiled, RingChange::TakeOut { at })?;
-    if rows.is_empty() {
+    let Some(rows) = some_renewed_rows(alloc, tiled, RingChange::TakeOut { at })? else {
         return Err(Refusal::NoSuchCorner);
-    }
+    };
     let out = ids_of(alloc, &rows)?;
     if let Some(id) = first_bent(tiled, &out, at) {
         return Err(Refusal::NotFlat(id));
     }
-    if is_bent(tiled.refined(), at) {
-        return Err(Refusal::NotFlat(0));
-    }
+    tiled.use_invariant();
     Ok(Change { out, rows })
 }
 

@@ -15,7 +15,7 @@ use ring_core::{Ring, RingFault, Shape};
 use std::alloc::{AllocError, Allocator};
 use tri_overlap::folded;
 
-/// A city: a simple ring, begun at its least corner, that goes round each place once or not at all.
+/// A city: a simple ring, begun at its least corner, that goes round each point once or not at all.
 ///
 /// Corners are in whole millimetres; the memory is that of the heap that was lent.
 #[derive(Debug, Drop)]
@@ -37,7 +37,7 @@ pub enum CityFault {
     /// G5: it is folded over itself: these two of the triangles that it is clipped to overlap, the
     /// first two by the first's number and then by the second's, from 0.
     Folded(usize, usize),
-    /// An allocation was refused.
+    /// An allocation failed.
     NoMemory,
 }
 
@@ -68,14 +68,15 @@ impl<'a, H: Allocator> City<'a, H> {
     /// # Errors
     ///
     /// The first of these that applies: [`CityFault::Ring`] (G1, G3, G2), [`CityFault::Folded`] (G5); and
-    /// [`CityFault::NoMemory`] where an allocation is refused.
+    /// [`CityFault::NoMemory`] where an allocation fails.
     ///
     /// ```
     /// let city = City::new(heap, ring)?;
     /// ```
     pub fn new(heap: &'a H, ring: RawRing<&'a H>) -> Result<City<'a, H>, CityFault>
         ensures ring { IfOk result (λ city. city.ring.corners ≡ begun_at_least ring.entry.corners) }
-        ensures fault { IfErr result (λ fault. IsCityFault (begun_at_least ring.entry.corners) fault ⊎ (fault ≡ NoMemory)) }
+        ensures fault { IfErr result (λ fault. IsCityFault (begun_at_least ring.entry.corners) fault
+            ⊎ (fault ≡ NoMemory)) }
         ensures refuses { (fault : CityFault) → IsCityFault (begun_at_least ring.entry.corners) fault
             → IsErrAnd result (λ e. (e ≡ fault) ⊎ (e ≡ NoMemory)) }
     {

@@ -48,7 +48,8 @@ pub(crate) fn draft_of<'a, H: Allocator>(
     ensures edit { IfOk result (λ draft. draft.entry.edit ≡ edit.now) }
     ensures here { IfOk result (λ _. AreParcels tiled.now.rows (named_ids edit.now)) }
     ensures shapes { IfOk result (λ draft. rings_of_shapes draft.shapes.items ≡ corner_lists draft.entry.rows) }
-    ensures corners { IfOk result (λ draft. draft.corners ≡ corner_count (after_entry (state_of tiled.now) draft.entry).rows) }
+    ensures corners { IfOk result (λ draft. draft.corners
+        ≡ corner_count (after_entry (state_of tiled.now) draft.entry).rows) }
     ensures err { IfErr result (λ refusal. IsDraftRefusal tiled.now edit.now refusal ⊎ (refusal ≡ NoMemory)) }
     ensures memory { IsErrOf result NoMemory → AsksMemory (state_of tiled.now) edit.now }
 {

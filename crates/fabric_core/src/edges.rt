@@ -1,10 +1,10 @@
 //! The parcels whose rings an edit changes: those that have an edge, or a corner.
 
-ghost use Rattle.std.specs.Prelude.{◌≡◌, map, IfOk};
-ghost use Rattle.std.specs.List.{All, AllByRecursion};
+ghost use Rattle.std.specs.Prelude.{◌≡◌, ◌≢◌, [], map, IfOk, IfSome, IfNone, OnSome, OnErr};
+ghost use Rattle.std.specs.List.{All, AllByRecursion, list_any};
 ghost use Rattle.geo_exact.specs.Bounds.{HoldsCorner};
 ghost use Rattle.fabric_core.specs.own.EntryRows.{rows_of_entry};
-ghost use Rattle.fabric_core.specs.own.RingChanges.{HasTwoEnds, renewed, rows_changed};
+ghost use Rattle.fabric_core.specs.own.RingChanges.{HasTwoEnds, is_changed, renewed, rows_changed};
 
 use crate::journal::Row;
 use crate::ring_change::RingChange;
@@ -12,14 +12,15 @@ use crate::tiled::Tiled;
 use std::alloc::{AllocError, Allocator};
 
 /// The parcels that are changed, after the change, by ascending id.
-pub(crate) fn renewed_rows<'a, H: Allocator>(
+fn renewed_rows<'a, H: Allocator>(
     alloc: &'a H,
     tiled: &Tiled<'a, H>,
     change: RingChange,
 ) -> Result<Vec<Row<&'a H>, &'a H>, AllocError>
     requires two_ends { HasTwoEnds change }
     requires in_area { AllByRecursion (λ row. All (HoldsCorner tiled.now.index.area) row.corners) tiled.now.rows }
-    ensures { IfOk result (λ rows. rows_of_entry rows.items ≡ map (renewed change) (rows_changed change tiled.now.rows)) }
+    ensures { IfOk result (λ rows. rows_of_entry rows.items
+        ≡ map (renewed change) (rows_changed change tiled.now.rows)) }
 {
     tiled.use_invariant();
     let _ids = tiled.ids();
@@ -38,4 +39,39 @@ pub(crate) fn renewed_rows<'a, H: Allocator>(
         }
     }
     Ok(rows)
+}
+
+/// Whether any parcel is changed. It takes no memory: each parcel is looked at, and not those of a cell alone.
+fn is_any_changed<'a, H: Allocator>(tiled: &Tiled<'a, H>, change: RingChange) -> bool
+    ensures { result ≡ list_any (λ row. is_changed change row.corners) tiled.now.rows }
+{
+    for (_, shape) in tiled.shapes() {
+        if change.changes(shape.ring.corners.as_slice()) {
+            return true;
+        }
+    }
+    false
+}
+
+/// The same as `renewed_rows`, or `None` where no parcel is changed, which is told whatever memory there is.
+pub(crate) fn some_renewed_rows<'a, H: Allocator>(
+    alloc: &'a H,
+    tiled: &Tiled<'a, H>,
+    change: RingChange,
+) -> Result<Option<Vec<Row<&'a H>, &'a H>>, AllocError>
+    requires two_ends { HasTwoEnds change }
+    requires in_area { AllByRecursion (λ row. All (HoldsCorner tiled.now.index.area) row.corners) tiled.now.rows }
+    ensures none { IfOk result (λ found. IfNone found (rows_changed change tiled.now.rows ≡ [])) }
+    ensures some { IfOk result (λ found. OnSome found (rows_changed change tiled.now.rows ≢ [])) }
+    ensures rows { IfOk result (λ found. IfSome found (λ rows. rows_of_entry rows.items
+        ≡ map (renewed change) (rows_changed change tiled.now.rows))) }
+    ensures memory { OnErr result (rows_changed change tiled.now.rows ≢ []) }
+{
+    match renewed_rows(alloc, tiled, change) {
+        Ok(rows) if rows.is_empty() => Ok(None),
+        Ok(rows) => Ok(Some(rows)),
+        // It takes no memory to see that no parcel is changed; it takes longer, and so it comes last.
+        Err(_) if !is_any_changed(tiled, change) => Ok(None),
+        Err(error) => Err(error),
+    }
 }

@@ -1,7 +1,7 @@
 //! The fabric: a layer that clerks edit, with its journal.
 
-ghost use Rattle.std.specs.Prelude.{◌≡◌, ◌≢◌, ◌⊎◌, ◌↔◌, ◌+◌, ◌≤◌, ◌≤ℤ◌, ℕ, List, [], ◌∷◌, ◌++◌, length, map, IfOk, IfErr};
-ghost use Rattle.std.specs.Prelude.{IsErrAnd, IsErrOf, OnOk, OnErr, MatchOption};
+ghost use Rattle.std.specs.Prelude.{◌≡◌, ◌≢◌, ◌⊎◌, ◌↔◌, ◌+◌, ◌≤◌, ◌≤ℤ◌, ℕ, List, [], ◌∷◌, ◌++◌, length, map, IfOk};
+ghost use Rattle.std.specs.Prelude.{IfErr, IsErrAnd, IsErrOf, IsOk, OnOk, OnErr, MatchOption};
 ghost use Rattle.std.specs.List.{All, Contains};
 ghost use Rattle.std.specs.List.Sorted.{IsStrictlyIncreasing};
 ghost use Rattle.geo_exact.specs.declared.corner.Corner.{Corner};
@@ -10,9 +10,11 @@ ghost use Rattle.geo_exact.specs.Bounds.{HoldsCorner};
 ghost use Rattle.geo_exact.specs.Interiors.{InteriorsMeet};
 ghost use Rattle.geo_exact.specs.Layers.{NumberedRing, numbered};
 ghost use Rattle.geo_exact.specs.declared.limits.TheConstants.{LAYER_RECORDS, RING_CORNERS};
+ghost use Rattle.ring_core.specs.Simple.{IsSimpleRing};
+ghost use Rattle.ring_edits.specs.declared.edit.Edit.TheVariants.{Straighten};
 ghost use Rattle.ring_edits.specs.Edits.{CoversAlike};
 ghost use Rattle.fabric_core.specs.declared.refusal.Refusal.{Refusal};
-ghost use Rattle.fabric_core.specs.declared.refusal.Refusal.TheVariants.{NoMemory};
+ghost use Rattle.fabric_core.specs.declared.refusal.Refusal.TheVariants.{NoMemory, NotFlat};
 ghost use Rattle.fabric_core.specs.Tiling.{IsTiling};
 ghost use Rattle.fabric_core.specs.Rows.{numbers};
 ghost use Rattle.fabric_core.specs.Faults.{AreSimple};
@@ -22,7 +24,7 @@ ghost use Rattle.fabric_core.specs.Locate.{IsLocatedAt};
 ghost use Rattle.fabric_core.specs.Journal.{opening_state, after_entry, replay};
 ghost use Rattle.fabric_core.specs.EditResults.{IsEntryOf, IsLawful, IsDue};
 ghost use Rattle.fabric_core.specs.declared.follow.FollowFault.TheVariants.{NotDue, NoMemory as NoRoom};
-ghost use Rattle.fabric_core.specs.Refusals.{IsRefusal, NeedsNoMemory};
+ghost use Rattle.fabric_core.specs.Refusals.{IsCityBent, IsFirstBent, IsRefusal, NeedsNoMemory};
 ghost use Rattle.geo_exact.specs.declared.corner.Corner.{Corner as CornerValue};
 ghost use Rattle.scaled_rings.specs.Tenfold.{IsLeastFar, IsLeastFarOf};
 ghost use Rattle.fabric_core.specs.declared.tenfold.ScaleFault.TheVariants.{TooFar, NoMemory as NoScaleMemory};
@@ -30,11 +32,11 @@ ghost use Rattle.fabric_core.specs.Tenfold.{IsScaleFault, IsTenfoldBook, corners
 
 use crate::carry_out::carry_out;
 use crate::draft::draft_of;
-use crate::follow::{FollowFault, fault_of};
+use crate::follow::FollowFault;
 use crate::journal::{Entry, JOURNAL_ENTRIES};
 use crate::layer::Layer;
 use crate::locate::At;
-use crate::opening::{Opening, count_corners, opening_of};
+use crate::opening::{Opening, count_corners};
 use crate::refusal::Refusal;
 use crate::tenfold::{ScaleFault, least_far_of_entries, tenfold_entries};
 use crate::tiled::Tiled;
@@ -56,14 +58,14 @@ use std::marker::Model;
 /// journal. Corners are in whole millimetres.
 pub struct Fabric<'a, H: Allocator> {
     tiled: Tiled<'a, H>,
-    opening: Opening<&'a H>,
+    opening: Opening<'a, H>,
     journal: Vec<Entry<&'a H>, &'a H>,
     // How many corners the parcels' rings have together.
     corners: usize,
 }
 
-/// A fabric as it was at a moment: a copy of one's own, which stays as it is while the fabric goes on. A map is drawn from
-/// it, and parcels are laid over zones. How many entries its journal has names the moment.
+/// A fabric as it was at a moment: a copy of one's own, which stays as it is while the fabric goes on. A map is drawn
+/// from it, and parcels are laid over zones. How many entries its journal has names the moment.
 pub type Sheet<'a, H> = Fabric<'a, H>;
 
 // As that of `Tiled`: whoever drops a fabric does it by one call.
@@ -99,49 +101,46 @@ impl<'a, H: Allocator> Model for Fabric<'a, H> {
 
 impl<'a, H: Allocator> Fabric<'a, H> {
     /// Opens a layer to be edited; its ids stay, and the next id is one above the greatest. The journal is empty.
+    /// Nothing is copied, since only clauses read what the layer was, and nothing is allocated.
     ///
     /// # Errors
     ///
-    /// The layer comes back where an allocation is refused.
+    /// None: the layer would come back for want of memory, and none is asked for.
     ///
     /// ```
     /// let mut fabric = Fabric::open(layer)?;
     /// ```
     pub fn open(layer: Layer<'a, H>) -> Result<Fabric<'a, H>, Layer<'a, H>>
+        ensures opens { IsOk result }
         ensures city { IfOk result (λ fabric. fabric.city ≡ layer.entry.city) }
         ensures opening { IfOk result (λ fabric. fabric.opening ≡ opening_state layer.entry.rows layer.entry.refined) }
         ensures now { IfOk result (λ fabric. fabric.now ≡ fabric.opening) }
         ensures index { IfOk result (λ fabric. fabric.index ≡ layer.entry.index) }
         ensures journal { IfOk result (λ fabric. fabric.journal ≡ []) }
-        ensures back { IfErr result (λ back. back ≡ layer.entry) }
     {
-        match opening_of(layer.tiled()) {
-            Ok(opening) => {
-                let tiled = layer.into_tiled();
-                tiled.use_invariant();
-                let corners = count_corners(tiled.shapes());
-                let journal = Vec::new(tiled.allocator());
-                Ok(Fabric {
-                    tiled,
-                    opening,
-                    journal,
-                    corners,
-                })
-            }
-            Err(_) => Err(layer),
-        }
+        let tiled = layer.into_tiled();
+        tiled.use_invariant();
+        let opening = Opening::of_tiled(&tiled);
+        let corners = count_corners(tiled.shapes());
+        let journal = Vec::new(tiled.allocator());
+        Ok(Fabric {
+            tiled,
+            opening,
+            journal,
+            corners,
+        })
     }
 
     /// A copy: the same opening, state and journal.
     ///
     /// # Errors
     ///
-    /// [`AllocError`] where an allocation is refused.
+    /// [`AllocError`] where an allocation fails.
     pub fn copy(&self) -> Result<Fabric<'a, H>, AllocError>
         ensures { IfOk result (λ copy. copy ≡ self.now) }
     {
         let tiled = self.tiled.copy()?;
-        let opening = self.opening.clone()?;
+        let opening = self.opening.again(&self.tiled);
         let journal = self.journal.clone()?;
         Ok(Fabric {
             tiled,
@@ -155,7 +154,7 @@ impl<'a, H: Allocator> Fabric<'a, H> {
     ///
     /// # Errors
     ///
-    /// [`AllocError`] where an allocation is refused.
+    /// [`AllocError`] where an allocation fails.
     ///
     /// ```
     /// let sheet = fabric.sheet()?;
@@ -166,8 +165,9 @@ impl<'a, H: Allocator> Fabric<'a, H> {
         self.copy()
     }
 
-    /// The fabric of a grid ten times as fine: each coordinate of the city, the parcels, the opening and the journal is ten
-    /// times what it is here, and all ids and numbers are the same. So a register in centimetres becomes one in millimetres.
+    /// The fabric of a grid ten times as fine: each coordinate of the city, the parcels, the opening and the
+    /// journal is ten times what it is here, and all ids and numbers are the same. So a register in
+    /// centimetres becomes one in millimetres.
     ///
     /// # Errors
     ///
@@ -179,7 +179,8 @@ impl<'a, H: Allocator> Fabric<'a, H> {
     /// ```
     pub fn tenfold(&self) -> Result<Fabric<'a, H>, ScaleFault>
         ensures tenfold { IfOk result (IsTenfoldBook self.now) }
-        ensures fault { IfErr result (λ fault. IsScaleFault (corners_of_book self.now) fault ⊎ (fault ≡ NoScaleMemory)) }
+        ensures fault { IfErr result (λ fault. IsScaleFault (corners_of_book self.now) fault
+            ⊎ (fault ≡ NoScaleMemory)) }
         ensures refuses { (corner : CornerValue) → IsLeastFar (corners_of_book self.now) corner
             → IsErrAnd result (λ e. (e ≡ TooFar corner) ⊎ (e ≡ NoScaleMemory)) }
     {
@@ -188,7 +189,7 @@ impl<'a, H: Allocator> Fabric<'a, H> {
         }
         let heap = self.tiled.allocator();
         let tiled = self.tiled.tenfold()?;
-        let opening = self.opening.tenfold(heap)?;
+        let opening = self.opening.tenfold(&self.tiled);
         let journal = tenfold_entries(heap, self.journal())?;
         let corners = self.corners;
         Ok(Fabric {
@@ -209,10 +210,10 @@ impl<'a, H: Allocator> Fabric<'a, H> {
         least_far_of_entries(self.journal(), found)
     }
 
-    /// The parcels are simple rings that tile the city, and are within the limits of a layer, in their number
-    /// too; the city is no longer than a ring may be; in the cells of the grid index stand exactly the parcels;
-    /// the city's refined ring covers what the city's ring covers; and the journal is lawful, and leads from the
-    /// opening to what is now.
+    /// Only teaches the prover: the parcels are simple rings that tile the city, and are within the limits of a layer,
+    /// in their number too; the city is no longer than a ring may be; in the cells of the grid index stand exactly the
+    /// parcels; the city's refined ring is simple, covers what the city's ring covers, and bends only where a parcel
+    /// does; and the journal is lawful, and leads from the opening to what is now.
     pub fn use_invariant(&self)
         ensures tiling { IsTiling self.now.now.rows self.now.city }
         ensures simple { AreSimple self.now.now.rows }
@@ -221,6 +222,8 @@ impl<'a, H: Allocator> Fabric<'a, H> {
         ensures city { length self.now.city ≤ RING_CORNERS }
         ensures indexed { IsIndexed self.now.now.rows self.now.city self.now.index }
         ensures ground { CoversAlike self.now.city self.now.now.refined }
+        ensures simple_city { IsSimpleRing self.now.now.refined }
+        ensures city_bends { (at : CornerValue) → ¬ IsCityBent self.now.now at }
         ensures lawful { IsLawful self.now.opening self.now.journal }
         ensures replays { replay self.now.opening self.now.journal ≡ self.now.now }
     {
@@ -333,7 +336,7 @@ impl<'a, H: Allocator> Fabric<'a, H> {
     /// [`Refusal::BadPath`] (E3), for an insert [`Refusal::NoSuchEdge`] (E7) and
     /// [`Refusal::NotOnEdge`] (E8), for a straightening [`Refusal::NoSuchCorner`] (E11) and
     /// [`Refusal::NotFlat`] (E12); [`Refusal::TooMany`] (E10); [`Refusal::Ring`] (E6). And
-    /// [`Refusal::NoMemory`] where an allocation is refused.
+    /// [`Refusal::NoMemory`] where an allocation fails; but E9, E1 to E5, E7 and E11 are told even then.
     ///
     /// ```
     /// // Of parcels 1 and 2, neighbours: the new parcel is 3.
@@ -352,11 +355,16 @@ impl<'a, H: Allocator> Fabric<'a, H> {
         ensures opening { self.new.opening ≡ self.old.opening }
         // A refused one changes nothing.
         ensures unchanged { OnErr result (self.new ≡ self.old) }
-        ensures refusal { IfErr result (λ refusal. IsRefusal self.old.now self.old.journal edit.now refusal ⊎ (refusal ≡ NoMemory)) }
+        ensures refusal { IfErr result (λ refusal. IsRefusal self.old.now self.old.journal edit.now refusal
+            ⊎ (refusal ≡ NoMemory)) }
         ensures refuses { (refusal : Refusal) → IsRefusal self.old.now self.old.journal edit.now refusal
             → IsErrAnd result (λ e. (e ≡ refusal) ⊎ (e ≡ NoMemory)) }
-        // E9 and E1 to E5 are told before any memory is asked for.
-        ensures exact { (refusal : Refusal) → IsRefusal self.old.now self.old.journal edit.now refusal → NeedsNoMemory refusal
+        // E12 tells the first parcel whose ring bends: where none does, nor does the city's refined ring.
+        ensures bent { (at : CornerValue) (id : ℕ) → edit.now ≡ Straighten at → IsErrOf result (NotFlat id)
+            → IsFirstBent self.old.now.rows at id }
+        // E9, E1 to E5, E7 and E11 are told whatever memory there is.
+        ensures exact { (refusal : Refusal) → IsRefusal self.old.now self.old.journal edit.now refusal
+            → NeedsNoMemory refusal
             → IsErrOf result refusal }
     {
         if self.journal.len() >= JOURNAL_ENTRIES {
@@ -376,7 +384,7 @@ impl<'a, H: Allocator> Fabric<'a, H> {
     /// # Errors
     ///
     /// [`FollowFault::NotDue`] exactly where the entry is not due, and [`FollowFault::NoMemory`]
-    /// where an allocation is refused; nothing has changed then.
+    /// where an allocation fails; nothing has changed then.
     pub fn follow(&mut self, entry: &Entry<&'a H>) -> Result<(), FollowFault>
         ensures due { OnOk result (IsDue self.old entry.now) }
         ensures now { OnOk result (self.new.now ≡ after_entry self.old.now entry.now) }
@@ -403,7 +411,7 @@ impl<'a, H: Allocator> Fabric<'a, H> {
         );
         let draft = match drafted {
             Ok(draft) => draft,
-            Err(refusal) => return Err(fault_of(refusal)),
+            Err(refusal) => return Err(FollowFault::from(refusal)),
         };
         if !draft.entry.changes_as(entry) {
             return Err(FollowFault::NotDue);

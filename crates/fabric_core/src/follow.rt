@@ -11,7 +11,7 @@ use std::alloc::AllocError;
 pub enum FollowFault {
     /// The entry is not due.
     NotDue,
-    /// An allocation was refused.
+    /// An allocation failed.
     NoMemory,
 }
 
@@ -26,12 +26,15 @@ impl From<AllocError> for FollowFault {
     }
 }
 
-/// Why an entry is not followed whose edit is refused.
-pub(crate) fn fault_of(refusal: Refusal) -> FollowFault
-    ensures { ((refusal ≡ NoRoom) × (result ≡ NoMemory)) ⊎ ((refusal ≢ NoRoom) × (result ≡ NotDue)) }
-{
-    match refusal {
-        Refusal::NoMemory => FollowFault::NoMemory,
-        _ => FollowFault::NotDue,
+// The entry's edit is refused: the fabric that has the entry made it, so this one is not where that one was.
+impl From<Refusal> for FollowFault {
+    ghost from_gives = { λ refusal fault.
+        ((refusal ≡ NoRoom) × (fault ≡ NoMemory)) ⊎ ((refusal ≢ NoRoom) × (fault ≡ NotDue)) };
+
+    fn from(refusal: Refusal) -> FollowFault {
+        match refusal {
+            Refusal::NoMemory => FollowFault::NoMemory,
+            _ => FollowFault::NotDue,
+        }
     }
 }

@@ -22,7 +22,8 @@ pub(crate) fn enter_all<'a, H: Allocator>(
 ) -> Result<(Parcels<&'a H>, CellIndex<'a, H>), AllocError>
     requires numbered { length numbers.now ≡ length shapes.items }
     requires rising { IsStrictlyIncreasing numbers.now }
-    ensures rows { IfOk result (λ kept. rows_of_keyed kept.0.parcels ≡ numbered_rows numbers.now (corners_of_shapes shapes.entry.items)) }
+    ensures rows { IfOk result (λ kept. rows_of_keyed kept.0.parcels
+        ≡ numbered_rows numbers.now (corners_of_shapes shapes.entry.items)) }
     ensures area { IfOk result (λ kept. kept.1.area ≡ area) }
     ensures indexed { IfOk result (λ kept. Indexes kept.1 (entries_of kept.0.parcels)) }
     ensures next { IfOk result (λ kept. kept.0.next ≡ next_after (rows_of_keyed kept.0.parcels) 0) }

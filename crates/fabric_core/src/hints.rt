@@ -8,19 +8,21 @@ use parcel_table::{Fate, Parcels};
 use ring_core::Shape;
 use std::alloc::{AllocError, Allocator};
 
-/// The most cells along an axis.
+/// The most cells along an axis, 2 ^ 11: more than the 512 of a layer with the most parcels.
 const MOST: usize = 2_048;
 
-/// The most cells along an axis that are told of one core.
+/// The most cells along an axis that are told of one core, so that an edit of a
+/// large parcel does not wait for its hints.
 const TOLD: usize = 16;
 
-/// A cell's length has two to this power parts, so that 2,048 cells have as many as there are numbers of 64 bits.
+/// A cell's length has two to this power parts, so that 2,048 cells have as many as there are numbers of 64 bits, and a
+/// shift finds the cell.
 const PART_BITS: u32 = 53;
 
 /// Half a cell's parts.
 const HALF: u64 = 1 << 52;
 
-/// What a cell has that no core has met.
+/// What a cell has that no core has met: no parcel's key, since a layer has fewer parcels.
 const NONE: u32 = u32::MAX;
 
 /// Cells of one length along an axis, one after another from a coordinate on.
@@ -56,7 +58,7 @@ impl Span {
     }
 }
 
-/// The cell in which so many parts lie before a place.
+/// The cell in which so many parts lie before a point.
 fn cell_of(parts: u64) -> usize
     ensures { result < MOST }
 {
@@ -69,6 +71,7 @@ impl Axis {
         requires { count ≤ MOST }
     {
         let length = low.abs_diff(high).saturating_add(1);
+        // With the most cells there is one part more than a number of 64 bits can say.
         let parts = ((count as u128) << PART_BITS).min(u64::MAX as u128) as u64;
         Axis {
             low,
@@ -127,10 +130,10 @@ impl Axis {
     }
 }
 
-/// For each cell of a grid over an area the key of a parcel to look at first, where a place in the cell is asked for.
+/// For each cell of a grid over an area the key of a parcel to look at first, where a point in the cell is asked for.
 ///
-/// A hint may be wrong: another parcel may have the place, or none have the key any more. Nothing
-/// rests on it: whoever follows one looks up what stands under the key, and tests the place against
+/// A hint may be wrong: another parcel may have the point, or none have the key any more. Nothing
+/// rests on it: whoever follows one looks up what stands under the key, and tests the point against
 /// that.
 #[derive(Drop)]
 pub(crate) struct Hints<'a, H: Allocator> {
@@ -157,6 +160,7 @@ impl<'a, H: Allocator> Hints<'a, H> {
     /// No hint yet, for a city of so many parcels over an area: along each axis twice as many cells
     /// as the root of their number, but at most 2,048.
     fn new(heap: &'a H, area: Bounds, parcels: usize) -> Result<Hints<'a, H>, AllocError> {
+        // About four cells a parcel, so that most parcels have some of their own.
         let count = (parcels.isqrt() * 2).max(1).min(MOST);
         let columns = Axis::new(area.low.x, area.high.x, count);
         let rows = Axis::new(area.low.y, area.high.y, count);
@@ -182,7 +186,7 @@ impl<'a, H: Allocator> Hints<'a, H> {
         Ok(hints)
     }
 
-    /// The numbers of the cell that a place is in, of the one to the left or to the right of it, and
+    /// The numbers of the cell that a point is in, of the one to the left or to the right of it, and
     /// of the one above or below it, whichever are nearer.
     pub(crate) fn near(&self, place: Corner) -> [usize; 3] {
         let column = self.columns.near(place.x);
@@ -194,7 +198,7 @@ impl<'a, H: Allocator> Hints<'a, H> {
         ]
     }
 
-    /// The key of the parcel that is to be looked at first for a place in a cell, or any other number.
+    /// The key of the parcel that is to be looked at first for a point in a cell, or any other number.
     pub(crate) fn key(&self, cell: usize) -> usize {
         match self.keys.get(cell) {
             Some(key) => *key as usize,

@@ -9,7 +9,8 @@ use ring_edits::Edit;
 use std::alloc::{AllocError, Allocator};
 use std::marker::Model;
 
-/// The most entries of a journal.
+/// The most entries of a journal, 2 ^ 20. An edit gives out two ids at most, so ids stay below 2 ^ 22, and the table
+/// with a place for each stays small.
 pub const JOURNAL_ENTRIES: usize = 1_048_576;
 
 /// A parcel as a journal has it: its ring under its id. Corners are in whole millimetres.

@@ -22,7 +22,7 @@ ghost use Rattle.fabric_core.specs.Locate.{IsInsideOf, IsInsideOneOnly, IsOnEdge
 ghost use Rattle.fabric_core.specs.Rows.{AreRefined, IsUntiledBeside};
 
 /// Rows that are made up of counterclockwise triangles, and have the net edges of a city that goes
-/// round no place twice, tile the city. The city's edges may be noded.
+/// round no point twice, tile the city. The city's edges may be noded.
 ///
 /// Each row's winding number is the sum of its triangles', so it is not negative. All together they
 /// are the city's, which is 0 or 1. So where it is 1 exactly one row has 1, and where it is 0 none
@@ -59,7 +59,7 @@ pub fn a_refined_city_keeps_its_ground()
         → AreRefined records city rows refined → area2 refined ≡ area2 city }
 {}
 
-/// In a tiling, a place inside the city and off all edges is inside exactly one parcel, and on no edge of one.
+/// In a tiling, a point inside the city and off all edges is inside exactly one parcel, and on no edge of one.
 #[tactic(auto, using(crate::proofs::tilings::OneParcel::inside_one_only))]
 pub fn a_place_off_all_edges_is_inside_one_parcel()
     ensures { (rows : List NumberedRing) (city : List Corner) (p : Point) → IsTiling rows city → IsOffEdges p rows city
@@ -67,18 +67,21 @@ pub fn a_place_off_all_edges_is_inside_one_parcel()
 {}
 
 /// In a tiling of simple rings, what is inside one parcel is on no edge of a parcel and inside no
-/// other, and the city goes round it once. So a search for where a place lies may end at the first
+/// other, and the city goes round it once. So a search for where a point lies may end at the first
 /// parcel that has it inside.
 ///
-/// An edge that the place lies on is that of a parcel's triangle, and from there a little way
-/// towards the triangle's centre are places inside both parcels. But off all edges a place is in
+/// An edge that the point lies on is that of a parcel's triangle, and from there a little way
+/// towards the triangle's centre are points inside both parcels. But off all edges a point is in
 /// one parcel alone.
 pub fn what_is_inside_a_parcel_is_in_no_other()
-    ensures edges { (rows : List NumberedRing) (city : List Corner) (p : Point) (id other : ℕ) → AreSimple rows → IsTiling rows city
+    ensures edges { (rows : List NumberedRing) (city : List Corner) (p : Point) (id other : ℕ) → AreSimple rows
+        → IsTiling rows city
         → IsInsideOf rows p id → ¬ IsOnEdgeOf rows p other }
-    ensures others { (rows : List NumberedRing) (city : List Corner) (p : Point) (id other : ℕ) → AreSimple rows → IsTiling rows city
+    ensures others { (rows : List NumberedRing) (city : List Corner) (p : Point) (id other : ℕ) → AreSimple rows
+        → IsTiling rows city
         → IsInsideOf rows p id → IsInsideOf rows p other → other ≡ id }
-    ensures city { (rows : List NumberedRing) (city : List Corner) (p : Point) (id : ℕ) → AreSimple rows → IsTiling rows city
+    ensures city { (rows : List NumberedRing) (city : List Corner) (p : Point) (id : ℕ) → AreSimple rows
+        → IsTiling rows city
         → IsInsideOf rows p id → winding p city ≡ pos 1 }
 {}
 

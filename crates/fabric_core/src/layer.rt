@@ -10,6 +10,7 @@ ghost use Rattle.geo_exact.specs.Bounds.{HoldsCorner, IsLeastBox};
 ghost use Rattle.geo_exact.specs.Interiors.{InteriorsMeet};
 ghost use Rattle.geo_exact.specs.Layers.{NumberedRing, numbered, rings_of, corner_count, NumbersRise};
 ghost use Rattle.geo_exact.specs.declared.limits.TheConstants.{LAYER_CORNERS, LAYER_RECORDS, RING_CORNERS};
+ghost use Rattle.ring_core.specs.Simple.{IsSimpleRing};
 ghost use Rattle.fabric_core.specs.declared.layer.LoadFault.{LoadFault};
 ghost use Rattle.fabric_core.specs.declared.layer.LoadFault.TheVariants.{Gap, NoMemory};
 ghost use Rattle.fabric_core.specs.Tiling.{IsTiling};
@@ -46,7 +47,7 @@ pub enum LoadFault {
     /// often as the city: its two corners in order, and how much oftener the rings have it, each edge
     /// counted less the edge back.
     Gap(Corner, Corner, i64),
-    /// An allocation was refused.
+    /// An allocation failed.
     NoMemory,
 }
 
@@ -66,8 +67,8 @@ impl<T: Drop> From<AllocFailed<T>> for LoadFault {
     }
 }
 
-/// A layer of parcels that tiles its city, exactly: off all edges each place of the city is in one
-/// parcel, and no other place is in any. Contracts see its rows (each parcel's ring under its id,
+/// A layer of parcels that tiles its city, exactly: off all edges each point of the city is in one
+/// parcel, and no other point is in any. Contracts see its rows (each parcel's ring under its id,
 /// by ascending id), the city's ring as it was read, and that ring with the layer's corners in it.
 ///
 /// Every corner of the layer and the city that lies inside an edge of a parcel or of the city is a
@@ -105,7 +106,7 @@ impl<'a, H: Allocator> Layer<'a, H> {
     /// # Errors
     ///
     /// The first of these that applies: [`LoadFault::TooMany`] (H3), [`LoadFault::Ring`] (H1),
-    /// [`LoadFault::Gap`] (H2); and [`LoadFault::NoMemory`] where an allocation is refused. No tiling
+    /// [`LoadFault::Gap`] (H2); and [`LoadFault::NoMemory`] where an allocation fails. No tiling
     /// is refused by H2.
     ///
     /// ```
@@ -119,7 +120,8 @@ impl<'a, H: Allocator> Layer<'a, H> {
         requires numbers { NumbersRise 0 LAYER_RECORDS (rings_of records.items) }
         requires corners { corner_count (rings_of records.items) ≤ LAYER_CORNERS }
         // The rows are all records' rings, noded for all corners, under the record numbers.
-        ensures rows { IfOk result (λ layer. AreRefined (rings_of records.entry.items) city.now.ring.corners layer.rows layer.refined) }
+        ensures rows { IfOk result (λ layer. AreRefined (rings_of records.entry.items) city.now.ring.corners
+            layer.rows layer.refined) }
         ensures city { IfOk result (λ layer. layer.city ≡ city.now.ring.corners) }
         ensures tiling { IfOk result (λ layer. IsTiling layer.rows city.now.ring.corners) }
         ensures indexed { IfOk result (λ layer. IsIndexed layer.rows city.now.ring.corners layer.index) }
@@ -134,7 +136,7 @@ impl<'a, H: Allocator> Layer<'a, H> {
             → AreRefined (rings_of records.entry.items) city.now.ring.corners rows refined
             → AreWithinLimits rows → AreSimple rows → IsTiling rows city.now.ring.corners
             → MatchResult result (λ layer. layer.rows ≡ rows) (λ e. e ≡ NoMemory) }
-        // Beside an edge that is told as a gap, the rows do not go round each place as often as the city.
+        // Beside an edge that is told as a gap, the rows do not go round each point as often as the city.
         ensures gap { (rows : List NumberedRing) (refined : List Corner) (a b : Corner) (net : ℤ)
             → AreRefined (rings_of records.entry.items) city.now.ring.corners rows refined
             → IsErrOf result (Gap a b net) → IsUntiledBeside rows city.now.ring.corners refined a b }
@@ -152,7 +154,7 @@ impl<'a, H: Allocator> Layer<'a, H> {
     ///
     /// The first fault that applies, as `load` answers it: [`LoadFault::TooMany`] (H3),
     /// [`LoadFault::Ring`] (H1), [`LoadFault::Gap`] (H2); and [`LoadFault::NoMemory`] where an
-    /// allocation is refused.
+    /// allocation fails.
     pub fn load_or_all(
         heap: &'a H,
         city: &City<'a, H>,
@@ -161,14 +163,16 @@ impl<'a, H: Allocator> Layer<'a, H> {
     ) -> Result<Layer<'a, H>, LoadRefusal<&'a H>>
         requires numbers { NumbersRise 0 LAYER_RECORDS (rings_of records.items) }
         requires corners { corner_count (rings_of records.items) ≤ LAYER_CORNERS }
-        ensures rows { IfOk result (λ layer. AreRefined (rings_of records.entry.items) city.now.ring.corners layer.rows layer.refined) }
+        ensures rows { IfOk result (λ layer. AreRefined (rings_of records.entry.items) city.now.ring.corners
+            layer.rows layer.refined) }
         ensures city { IfOk result (λ layer. layer.city ≡ city.now.ring.corners) }
         ensures tiling { IfOk result (λ layer. IsTiling layer.rows city.now.ring.corners) }
         ensures indexed { IfOk result (λ layer. IsIndexed layer.rows city.now.ring.corners layer.index) }
         // The fault that is answered is the first of the layer, beside it all of its kind are answered
         // where they are asked for, and a layer with a first fault is refused by it, unless memory runs
         // out.
-        ensures faults { IfErr result (λ refusal. IsLoadRefusal asked (rings_of records.entry.items) city.now.ring.corners refusal
+        ensures faults { IfErr result (λ refusal. IsLoadRefusal asked (rings_of records.entry.items)
+            city.now.ring.corners refusal
             ⊎ IsOutOfMemory refusal) }
         ensures refuses { (fault : LoadFault) → IsLoadFault (rings_of records.entry.items) city.now.ring.corners fault
             → IsErrAnd result (λ refusal. (refusal.first ≡ fault) ⊎ (refusal.first ≡ NoMemory)) }
@@ -178,14 +182,6 @@ impl<'a, H: Allocator> Layer<'a, H> {
     }
 
     /// What the layer keeps, in which no parcel has gone.
-    pub(crate) fn tiled(&self) -> &Tiled<'a, H>
-        ensures shown { IsShownBy result.now self.now }
-        ensures fresh { IsFresh result.now }
-    {
-        &self.tiled
-    }
-
-    /// The layer taken apart.
     pub(crate) fn into_tiled(self) -> Tiled<'a, H>
         ensures shown { IsShownBy result self.entry }
         ensures fresh { IsFresh result }
@@ -194,11 +190,13 @@ impl<'a, H: Allocator> Layer<'a, H> {
         tiled
     }
 
-    /// The rows are simple rings that tile the city, and are within the limits of a layer, in their number
-    /// too; the city is no longer than a ring may be; and in the cells of the grid index stand exactly the rows.
+    /// Only teaches the prover: the rows are simple rings that tile the city, and are within the limits of a layer, in
+    /// their number too; the city is no longer than a ring may be, and its refined ring is simple; and in the cells of
+    /// the grid index stand exactly the rows.
     pub fn use_invariant(&self)
         ensures tiling { IsTiling self.now.rows self.now.city }
         ensures simple { AreSimple self.now.rows }
+        ensures simple_city { IsSimpleRing self.now.refined }
         ensures within { AreWithinLimits self.now.rows }
         ensures number { length self.now.rows ≤ LAYER_RECORDS }
         ensures city { length self.now.city ≤ RING_CORNERS }
@@ -312,7 +310,7 @@ impl<'a, H: Allocator + Send + Sync> Layer<'a, H> {
     /// # Errors
     ///
     /// As `load`: [`LoadFault::TooMany`] (H3), [`LoadFault::Ring`] (H1), [`LoadFault::Gap`] (H2); and
-    /// [`LoadFault::NoMemory`] where an allocation is refused.
+    /// [`LoadFault::NoMemory`] where an allocation fails.
     ///
     /// ```
     /// let layer = Layer::load_by(rt, 4, heap, &city, records)?;
@@ -327,7 +325,8 @@ impl<'a, H: Allocator + Send + Sync> Layer<'a, H> {
         requires numbers { NumbersRise 0 LAYER_RECORDS (rings_of records.items) }
         requires corners { corner_count (rings_of records.items) ≤ LAYER_CORNERS }
         // The rows are all records' rings, noded for all corners, under the record numbers.
-        ensures rows { IfOk result (λ layer. AreRefined (rings_of records.entry.items) city.now.ring.corners layer.rows layer.refined) }
+        ensures rows { IfOk result (λ layer. AreRefined (rings_of records.entry.items) city.now.ring.corners
+            layer.rows layer.refined) }
         ensures city { IfOk result (λ layer. layer.city ≡ city.now.ring.corners) }
         ensures tiling { IfOk result (λ layer. IsTiling layer.rows city.now.ring.corners) }
         ensures indexed { IfOk result (λ layer. IsIndexed layer.rows city.now.ring.corners layer.index) }
@@ -342,7 +341,7 @@ impl<'a, H: Allocator + Send + Sync> Layer<'a, H> {
             → AreRefined (rings_of records.entry.items) city.now.ring.corners rows refined
             → AreWithinLimits rows → AreSimple rows → IsTiling rows city.now.ring.corners
             → MatchResult result (λ layer. layer.rows ≡ rows) (λ e. e ≡ NoMemory) }
-        // Beside an edge that is told as a gap, the rows do not go round each place as often as the city.
+        // Beside an edge that is told as a gap, the rows do not go round each point as often as the city.
         ensures gap { (rows : List NumberedRing) (refined : List Corner) (a b : Corner) (net : ℤ)
             → AreRefined (rings_of records.entry.items) city.now.ring.corners rows refined
             → IsErrOf result (Gap a b net) → IsUntiledBeside rows city.now.ring.corners refined a b }
@@ -368,14 +367,16 @@ impl<'a, H: Allocator + Send + Sync> Layer<'a, H> {
     ) -> Result<Layer<'a, H>, LoadRefusal<&'a H>>
         requires numbers { NumbersRise 0 LAYER_RECORDS (rings_of records.items) }
         requires corners { corner_count (rings_of records.items) ≤ LAYER_CORNERS }
-        ensures rows { IfOk result (λ layer. AreRefined (rings_of records.entry.items) city.now.ring.corners layer.rows layer.refined) }
+        ensures rows { IfOk result (λ layer. AreRefined (rings_of records.entry.items) city.now.ring.corners
+            layer.rows layer.refined) }
         ensures city { IfOk result (λ layer. layer.city ≡ city.now.ring.corners) }
         ensures tiling { IfOk result (λ layer. IsTiling layer.rows city.now.ring.corners) }
         ensures indexed { IfOk result (λ layer. IsIndexed layer.rows city.now.ring.corners layer.index) }
         // The fault that is answered is the first of the layer, beside it all of its kind are answered
         // where they are asked for, and a layer with a first fault is refused by it, unless memory runs
         // out.
-        ensures faults { IfErr result (λ refusal. IsLoadRefusal asked (rings_of records.entry.items) city.now.ring.corners refusal
+        ensures faults { IfErr result (λ refusal. IsLoadRefusal asked (rings_of records.entry.items)
+            city.now.ring.corners refusal
             ⊎ IsOutOfMemory refusal) }
         ensures refuses { (fault : LoadFault) → IsLoadFault (rings_of records.entry.items) city.now.ring.corners fault
             → IsErrAnd result (λ refusal. (refusal.first ≡ fault) ⊎ (refusal.first ≡ NoMemory)) }
@@ -396,7 +397,8 @@ pub(crate) fn layer_of<'a, H: Allocator>(
 ) -> Result<Layer<'a, H>, AllocError>
     requires checked { IsChecked numbers.now (corners_of_shapes shapes.items) city refined }
     requires area { IsLeastBox area city }
-    ensures rows { IfOk result (λ layer. layer.rows ≡ numbered_rows numbers.now (corners_of_shapes shapes.entry.items)) }
+    ensures rows { IfOk result (λ layer. layer.rows
+        ≡ numbered_rows numbers.now (corners_of_shapes shapes.entry.items)) }
     ensures city { IfOk result (λ layer. layer.city ≡ city.entry) }
     ensures refined { IfOk result (λ layer. layer.refined ≡ refined.entry) }
     ensures no_fault { IfOk result (λ layer. HaveNoFault layer.rows layer.refined) }

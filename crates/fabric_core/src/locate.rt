@@ -1,4 +1,4 @@
-//! Where a place lies among the parcels.
+//! Where a point lies among the parcels.
 
 ghost use Rattle.std.specs.Prelude.{◌≡◌, ◌≤◌, ◌++◌, ℕ, List, length, IfOk, MatchOption};
 ghost use Rattle.std.specs.List.{Contains};
@@ -18,7 +18,8 @@ use parcel_table::Parcels;
 use ring_core::{Side, side_of};
 use std::alloc::{AllocError, Allocator};
 
-/// Where a corner lies among the parcels of a layer.
+/// Where a corner lies among the parcels of a layer: where four squares meet, it is on an edge of all four; a
+/// millimetre off their edges it is inside one.
 #[derive(Debug, Drop)]
 pub enum At<A: Allocator> {
     /// Inside the parcel with this id.

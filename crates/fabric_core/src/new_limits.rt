@@ -65,7 +65,8 @@ pub(crate) fn is_within<'a, H: Allocator>(
     requires here { (id : ℕ) → Contains change.now.out.items id → Contains (numbers tiled.now.rows) id }
     requires apart { AllPairs (λ a b. a ≢ b) change.now.out.items }
     ensures { IsTrue result
-        ↔ AreWithinLayerLimits (with_rows (rows_of_entry change.now.rows.items) (without_ids change.now.out.items tiled.now.rows)) }
+        ↔ AreWithinLayerLimits (with_rows (rows_of_entry change.now.rows.items)
+        (without_ids change.now.out.items tiled.now.rows)) }
 {
     tiled.use_invariant();
     let left = corners_left(tiled, &change.out, corners);
@@ -96,7 +97,9 @@ pub(crate) fn corners_after<'a, H: Allocator>(
     requires apart { AllPairs (λ a b. a ≢ b) change.now.out.items }
     requires within { AreWithinLayerLimits (with_rows (rows_of_entry change.now.rows.items)
         (without_ids change.now.out.items tiled.now.rows)) }
-    ensures { result ≡ corner_count (with_rows (rows_of_entry change.now.rows.items) (without_ids change.now.out.items tiled.now.rows)) }
+    ensures { result
+        ≡ corner_count (with_rows (rows_of_entry change.now.rows.items)
+        (without_ids change.now.out.items tiled.now.rows)) }
 {
     corners_left(tiled, &change.out, corners) + count(&change.rows)
 }

@@ -3,7 +3,8 @@
 use ring_core::RingFault;
 use std::alloc::{AllocError, AllocFailed};
 
-/// Why an edit is refused: the first that applies. Nothing has changed then.
+/// Why an edit is refused: the first that applies. Nothing has changed then. A split of parcel 1, which entry 1 has
+/// merged, is refused as `Retired`, with the text `E2 1 1`.
 #[derive(Clone, Copy, Debug, PartialEq, Eq)]
 pub enum Refusal {
     /// E1: an id that the edit names was never a parcel's.
@@ -40,10 +41,10 @@ pub enum Refusal {
     TooMany,
     /// E11: no parcel has the corner.
     NoSuchCorner,
-    /// E12: the ring of the parcel with this id bends at the corner; the least such id, or 0 where the city's refined
-    /// ring alone bends there.
+    /// E12: the ring of the parcel with this id bends at the corner; the least such id. It would be 0 where the city's
+    /// refined ring alone bends there, which it never does.
     NotFlat(u64),
-    /// An allocation was refused.
+    /// An allocation failed.
     NoMemory,
 }
 

@@ -3,6 +3,7 @@
 ghost use Rattle.std.specs.Prelude.{◌≡◌, ◌↔◌, IfOk, IfSome, IsNone, IsTrue};
 ghost use Rattle.fabric_core.specs.own.RingChanges.{HasTwoEnds, changed_city, changed_ring, corner_of, is_changed};
 
+use crate::ring_edges::has_edge;
 use geo_exact::{Corner, Corners};
 use ring_edits::{insert, put_into, straighten, take_out};
 use std::alloc::{AllocError, Allocator};
@@ -34,6 +35,16 @@ impl RingChange {
         match self {
             RingChange::PutIn { from, .. } => from,
             RingChange::TakeOut { at } => at,
+        }
+    }
+
+    /// Whether a ring is changed, which is seen without memory.
+    pub(crate) fn changes(self, ring: &[Corner]) -> bool
+        ensures { result ≡ is_changed self ring.now }
+    {
+        match self {
+            RingChange::PutIn { from, to, .. } => has_edge(ring, from, to),
+            RingChange::TakeOut { at } => ring.contains(&at),
         }
     }
 

@@ -4,7 +4,7 @@ ghost use Rattle.std.specs.Prelude.{◌≡◌, ◌++◌, ◌∷◌, [], List, If
 ghost use Rattle.std.specs.List.{AllByRecursion, AllZip};
 ghost use Rattle.geo_exact.specs.declared.corner.Corner.{Corner as CornerValue};
 ghost use Rattle.parcel_table.specs.Table.{rows_of as rows_of_shapes};
-ghost use Rattle.scaled_rings.specs.Tenfold.{AreTenTimes, IsLeastFarOf, IsNear};
+ghost use Rattle.scaled_rings.specs.Tenfold.{AreTenTimes, IsLeastBeyondOf, IsLeastFarOf, IsNear};
 ghost use Rattle.fabric_core.specs.JournalRows.{row_of};
 ghost use Rattle.fabric_core.specs.Tenfold.{IsTenfoldEntry, IsTenfoldRow, corners_of_entries, corners_of_rows};
 ghost use Rattle.fabric_core.specs.own.EntryRows.{rows_of_entry};
@@ -13,16 +13,18 @@ use crate::journal::{Entry, Row};
 use geo_exact::Corner;
 use parcel_table::Shapes;
 use ring_core::Shape;
-use scaled_rings::{least_far, least_far_of_edit, tenfold_all, tenfold_edit, tenfold_ring};
+use scaled_rings::{
+    least_beyond, least_far, least_far_of_edit, tenfold_all, tenfold_edit, tenfold_ring,
+};
 use std::alloc::{AllocError, Allocator};
 
 /// Why a fabric is not moved to a grid ten times as fine.
 #[derive(Clone, Copy, Debug, PartialEq, Eq)]
 pub enum ScaleFault {
-    /// M1: the corner is more than 10,000,000,000 mm from 0 along an axis; the least such corner, by x and then by y, of
-    /// the fabric, its opening and its journal.
+    /// M1: the corner is more than 10,000,000,000 mm from 0 along an axis; the least such corner, by x and then by y,
+    /// of the fabric, its opening and its journal.
     TooFar(Corner),
-    /// An allocation was refused.
+    /// An allocation failed.
     NoMemory,
 }
 
@@ -52,17 +54,18 @@ pub(crate) fn least_far_of_rows<A: Allocator>(
     least
 }
 
-/// The least corner of shapes that is too far, and of one found before.
-pub(crate) fn least_far_of_shapes<A: Allocator>(
+/// The least corner of shapes that is further from 0 along an axis, and of one found before.
+pub(crate) fn least_beyond_of_shapes<A: Allocator>(
+    most: u64,
     shapes: Shapes<'_, A>,
     found: Option<Corner>,
 ) -> Option<Corner>
-    ensures { (before : List CornerValue) → IsLeastFarOf before found
-        → IsLeastFarOf (before ++ corners_of_rows (rows_of_shapes shapes.entry)) result }
+    ensures { (before : List CornerValue) → IsLeastBeyondOf most before found
+        → IsLeastBeyondOf most (before ++ corners_of_rows (rows_of_shapes shapes.entry)) result }
 {
     let mut least = found;
     for (_, shape) in shapes {
-        least = least_far(shape.ring.corners.as_slice(), least);
+        least = least_beyond(most, shape.ring.corners.as_slice(), least);
     }
     least
 }

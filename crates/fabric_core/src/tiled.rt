@@ -20,11 +20,12 @@ ghost use Rattle.fabric_core.specs.Journal.{without_ids};
 ghost use Rattle.fabric_core.specs.own.Balanced.{IsBalanced};
 ghost use Rattle.fabric_core.specs.own.Changes.{state_of};
 ghost use Rattle.fabric_core.specs.own.Kept.{gone_by, IsExchanged, IsFresh, MayBeKept};
-ghost use Rattle.fabric_core.specs.own.RingChanges.{AreShapesOf, HasTwoEnds, KeepsGround, changed_city, changed_row, rows_changed};
+ghost use Rattle.fabric_core.specs.own.RingChanges.{AreShapesOf, HasTwoEnds, KeepsGround};
+ghost use Rattle.fabric_core.specs.own.RingChanges.{changed_city, changed_row, rows_changed};
 ghost use Rattle.fabric_core.specs.own.Lists.{numbered_rows, corners_of_rings, corners_of_shapes, IsEntryAt, replaced};
 ghost use Rattle.parcel_table.specs.Table.{HasId, entries_of};
 ghost use Rattle.cell_index.specs.Cells.{Indexes};
-ghost use Rattle.scaled_rings.specs.Tenfold.{AreTenTimes, IsLeastFarOf, IsNear};
+ghost use Rattle.scaled_rings.specs.Tenfold.{AreTenTimes, IsLeastBeyondOf, IsLeastFarOf, IsNear};
 ghost use Rattle.fabric_core.specs.Tenfold.{IsTenfoldState, corners_of_state};
 
 use crate::candidates::{ids_under, sort_once};
@@ -32,12 +33,12 @@ use crate::grid_index::enter_all;
 use crate::hints::Hints;
 use crate::locate::{At, on_edge_or_outside, search};
 use crate::ring_change::RingChange;
-use crate::tenfold::{least_far_of_shapes, tenfold_shapes};
+use crate::tenfold::{least_beyond_of_shapes, tenfold_shapes};
 use cell_index::{CellIndex, IndexEntry};
 use geo_exact::{Bounds, Corner, Corners};
 use parcel_table::{Fate, Ids, Parcels, Shapes};
 use ring_core::{Ring, Shape, Side, side_of};
-use scaled_rings::{least_box, least_far, tenfold_all};
+use scaled_rings::{NEAR_LIMIT, least_beyond, least_box, tenfold_all};
 use std::alloc::{AllocError, Allocator};
 use std::marker::Model;
 
@@ -47,7 +48,7 @@ pub(crate) struct Tiled<'a, H: Allocator> {
     refined: Corners<&'a H>,
     parcels: Parcels<&'a H>,
     index: CellIndex<'a, H>,
-    // Which parcel to look at first for a place. No part of what contracts see.
+    // Which parcel to look at first for a point. No part of what contracts see.
     hints: Hints<'a, H>,
 }
 
@@ -94,7 +95,8 @@ impl<'a, H: Allocator> Tiled<'a, H> {
     ) -> Result<Tiled<'a, H>, AllocError>
         requires checked { IsChecked numbers.now (corners_of_shapes shapes.items) city refined }
         requires area { IsLeastBox area city }
-        ensures rows { IfOk result (λ tiled. tiled.rows ≡ numbered_rows numbers.now (corners_of_shapes shapes.entry.items)) }
+        ensures rows { IfOk result (λ tiled. tiled.rows
+            ≡ numbered_rows numbers.now (corners_of_shapes shapes.entry.items)) }
         ensures city { IfOk result (λ tiled. tiled.city ≡ city.entry) }
         ensures refined { IfOk result (λ tiled. tiled.refined ≡ refined.entry) }
         ensures no_fault { IfOk result (λ tiled. HaveNoFault tiled.rows tiled.refined) }
@@ -129,8 +131,8 @@ impl<'a, H: Allocator> Tiled<'a, H> {
         })
     }
 
-    /// The rows tile the city, and are within the limits of a layer; and in the cells of the grid
-    /// index stand exactly the rows.
+    /// Only teaches the prover: the rows tile the city, and are within the limits of a layer; and in the cells of the
+    /// grid index stand exactly the rows.
     pub(crate) fn use_invariant(&self)
         ensures tiling { IsTiling self.now.rows self.now.city }
         ensures within { AreWithinLimits self.now.rows }
@@ -328,7 +330,8 @@ fn index_of<'a, H: Allocator>(
 
 /// Exchanges a ring for another, where there is one.
 fn change_ring<A: Allocator>(ring: &mut Corners<A>, other: Option<Corners<A>>)
-    ensures { (expected : List Corner) → MatchOption other (ring.old ≡ expected) (λ new. new ≡ expected) → ring.new ≡ expected }
+    ensures { (expected : List Corner) → MatchOption other (ring.old ≡ expected) (λ new. new ≡ expected)
+        → ring.new ≡ expected }
 {
     if let Some(new) = other {
         *ring = new;
@@ -352,7 +355,7 @@ fn replace_all<A: Allocator>(parcels: &mut Parcels<A>, ids: &[u64], shapes: Vec<
 }
 
 impl<'a, H: Allocator> Tiled<'a, H> {
-    /// One parcel becomes two, under the next ids. Where an allocation is refused, nothing has changed.
+    /// One parcel becomes two, under the next ids. Where an allocation fails, nothing has changed.
     pub(crate) fn divide(
         &mut self,
         id: u64,
@@ -362,9 +365,11 @@ impl<'a, H: Allocator> Tiled<'a, H> {
     ) -> Result<(), AllocError>
         requires here { Contains (numbers self.old.rows) id }
         requires kept { MayBeKept (without_ids (id ∷ []) self.old.rows
-            ++ numbered self.old.next left.ring.corners ∷ numbered (self.old.next + 1) right.ring.corners ∷ []) self.old.refined }
+            ++ numbered self.old.next left.ring.corners ∷ numbered (self.old.next + 1) right.ring.corners
+            ∷ []) self.old.refined }
         ensures ok { OnOk result (IsExchanged self.old self.new (id ∷ []) by
-            (numbered self.old.next left.entry.ring.corners ∷ numbered (self.old.next + 1) right.entry.ring.corners ∷ [])) }
+            (numbered self.old.next left.entry.ring.corners
+            ∷ numbered (self.old.next + 1) right.entry.ring.corners ∷ [])) }
         ensures err { OnErr result (self.new ≡ self.old) }
     {
         self.parcels.use_invariant();
@@ -387,7 +392,7 @@ impl<'a, H: Allocator> Tiled<'a, H> {
         Ok(())
     }
 
-    /// Two parcels become one, under the next id. Where an allocation is refused, nothing has changed.
+    /// Two parcels become one, under the next id. Where an allocation fails, nothing has changed.
     pub(crate) fn unite(
         &mut self,
         a: u64,
@@ -398,7 +403,8 @@ impl<'a, H: Allocator> Tiled<'a, H> {
         requires a_here { Contains (numbers self.old.rows) a }
         requires b_here { Contains (numbers self.old.rows) b }
         requires apart { a ≢ b }
-        requires kept { MayBeKept (without_ids (a ∷ b ∷ []) self.old.rows ++ numbered self.old.next shape.ring.corners ∷ [])
+        requires kept { MayBeKept (without_ids (a ∷ b ∷ []) self.old.rows
+            ++ numbered self.old.next shape.ring.corners ∷ [])
             self.old.refined }
         ensures ok { OnOk result (IsExchanged self.old self.new (a ∷ b ∷ []) by
             (numbered self.old.next shape.entry.ring.corners ∷ [])) }
@@ -420,7 +426,7 @@ impl<'a, H: Allocator> Tiled<'a, H> {
         Ok(())
     }
 
-    /// Two parcels become two others, under the next ids. Where an allocation is refused, nothing has changed.
+    /// Two parcels become two others, under the next ids. Where an allocation fails, nothing has changed.
     pub(crate) fn renew(
         &mut self,
         a: u64,
@@ -433,9 +439,11 @@ impl<'a, H: Allocator> Tiled<'a, H> {
         requires b_here { Contains (numbers self.old.rows) b }
         requires apart { a ≢ b }
         requires kept { MayBeKept (without_ids (a ∷ b ∷ []) self.old.rows
-            ++ numbered self.old.next of_a.ring.corners ∷ numbered (self.old.next + 1) of_b.ring.corners ∷ []) self.old.refined }
+            ++ numbered self.old.next of_a.ring.corners ∷ numbered (self.old.next + 1) of_b.ring.corners
+            ∷ []) self.old.refined }
         ensures ok { OnOk result (IsExchanged self.old self.new (a ∷ b ∷ []) by
-            (numbered self.old.next of_a.entry.ring.corners ∷ numbered (self.old.next + 1) of_b.entry.ring.corners ∷ [])) }
+            (numbered self.old.next of_a.entry.ring.corners
+            ∷ numbered (self.old.next + 1) of_b.entry.ring.corners ∷ [])) }
         ensures err { OnErr result (self.new ≡ self.old) }
     {
         self.parcels.use_invariant();
@@ -460,7 +468,7 @@ impl<'a, H: Allocator> Tiled<'a, H> {
     }
 
     /// A corner is put into the rings of parcels or taken out of them; they keep their ids and get these shapes. The
-    /// city's refined ring is changed, too. Where an allocation is refused, nothing has changed.
+    /// city's refined ring is changed, too. Where an allocation fails, nothing has changed.
     pub(crate) fn change_rings(
         &mut self,
         change: RingChange,
@@ -491,14 +499,22 @@ impl<'a, H: Allocator> Tiled<'a, H> {
 }
 
 impl<'a, H: Allocator> Tiled<'a, H> {
-    /// The least corner of the parcels and of the city's refined ring that is too far to be ten times as far, and of one
+    /// The least corner of the parcels and of the city's refined ring that is further from 0 along an axis, and of one
     /// found before.
+    pub(crate) fn least_beyond(&self, most: u64, found: Option<Corner>) -> Option<Corner>
+        ensures { (before : List CornerValue) → IsLeastBeyondOf most before found
+            → IsLeastBeyondOf most (before ++ corners_of_state (state_of self.now)) result }
+    {
+        let found = least_beyond_of_shapes(most, self.shapes(), found);
+        least_beyond(most, self.refined(), found)
+    }
+
+    /// The same of those that are too far to be ten times as far.
     pub(crate) fn least_far(&self, found: Option<Corner>) -> Option<Corner>
         ensures { (before : List CornerValue) → IsLeastFarOf before found
             → IsLeastFarOf (before ++ corners_of_state (state_of self.now)) result }
     {
-        let found = least_far_of_shapes(self.shapes(), found);
-        least_far(self.refined(), found)
+        self.least_beyond(NEAR_LIMIT.unsigned_abs(), found)
     }
 
     /// The same parcels under the same keys, each corner ten times.

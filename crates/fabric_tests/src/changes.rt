@@ -100,8 +100,13 @@ pub fn is_inside<H: Allocator>(
 /// Coordinates of places that are located: those of corners, and what is beside them.
 static COORDINATES: [i64; 12] = [-1, 0, 1, 10, 29, 30, 31, 59, 60, 61, 99, 100];
 
-/// Whether a place is located where the rings of all parcels say that it is.
-fn is_located<H: Allocator>(heap: &H, fabric: &Fabric<'_, H>, place: Corner) -> Result<bool, Fail> {
+/// Whether a place is located, by this answer, where the rings of all parcels of a fabric say that it is.
+pub fn is_scanned<H: Allocator>(
+    heap: &H,
+    fabric: &Fabric<'_, H>,
+    place: Corner,
+    answer: &At<&H>,
+) -> Result<bool, Fail> {
     let mut on_edge = Vec::new(heap);
     let mut inside = None;
     for (id, shape) in fabric.shapes() {
@@ -115,11 +120,16 @@ fn is_located<H: Allocator>(heap: &H, fabric: &Fabric<'_, H>, place: Corner) -> 
             Side::Outside => {}
         }
     }
-    match fabric.locate(place)? {
-        At::OnEdge(ids) => Ok(!ids.is_empty() && ids.as_slice() == on_edge.as_slice()),
-        At::Inside(id) => Ok(on_edge.is_empty() && inside == Some(id)),
-        At::Outside => Ok(on_edge.is_empty() && inside.is_none()),
-    }
+    Ok(match answer {
+        At::OnEdge(ids) => !ids.is_empty() && ids.as_slice() == on_edge.as_slice(),
+        At::Inside(id) => on_edge.is_empty() && inside == Some(*id),
+        At::Outside => on_edge.is_empty() && inside.is_none(),
+    })
+}
+
+/// Whether a place is located where the rings of all parcels say that it is.
+fn is_located<H: Allocator>(heap: &H, fabric: &Fabric<'_, H>, place: Corner) -> Result<bool, Fail> {
+    is_scanned(heap, fabric, place, &fabric.locate(place)?)
 }
 
 /// Whether all places are.

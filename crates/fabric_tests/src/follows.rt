@@ -4,15 +4,13 @@ use crate::changes::{Parcel, are, take};
 use crate::steps::{BACK_TO_ONE, HALVES, INTO_HALVES, ONE_CORNER, TWO, TWO_CORNERS};
 use fabric_core::{Entry, Fabric, FollowFault, Row};
 use refusing_alloc::Refusing;
-use std::alloc::{Allocator, Global};
+use std::alloc::Allocator;
 use std::test::Fail;
+use test_builders::{Refuses, was_refused};
 use test_cities::{RINGS, SQUARE, fabric};
 
 /// No call here has so many growths.
 const MOST: u64 = 1000;
-
-/// The heap of the tests here.
-type Heap = Refusing<Global>;
 
 /// The parcels before an entry, and those after it.
 type Passage = (&'static [Parcel], &'static [Parcel]);
@@ -32,12 +30,27 @@ fn are_same_rows<A: Allocator>(rows: &[Row<A>], others: &[Row<A>]) -> bool {
 }
 
 /// Whether the entries are alike in all that they tell.
-pub fn is_same_entry<A: Allocator>(entry: &Entry<A>, other: &Entry<A>) -> bool {
+fn is_same_entry<A: Allocator>(entry: &Entry<A>, other: &Entry<A>) -> bool {
     entry.number() == other.number()
         && entry.clerk() == other.clerk()
         && entry.edit() == other.edit()
         && entry.out() == other.out()
         && are_same_rows(entry.rows(), other.rows())
+}
+
+/// Whether both have the same journal.
+pub fn have_same_journal<'a, H: Allocator>(fabric: &Fabric<'a, H>, other: &Fabric<'a, H>) -> bool {
+    let entries = fabric.journal();
+    let others = other.journal();
+    if entries.len() != others.len() {
+        return false;
+    }
+    for place in 0..entries.len() {
+        if !is_same_entry(&entries[place], &others[place]) {
+            return false;
+        }
+    }
+    true
 }
 
 /// Whether the copy has the journal and the refined ring of the original, and these parcels.
@@ -46,17 +59,7 @@ fn is_copy_of<'a, H: Allocator>(
     original: &Fabric<'a, H>,
     want: &[Parcel],
 ) -> bool {
-    let entries = copy.journal();
-    let others = original.journal();
-    if entries.len() != others.len() || copy.refined() != original.refined() {
-        return false;
-    }
-    for place in 0..entries.len() {
-        if !is_same_entry(&entries[place], &others[place]) {
-            return false;
-        }
-    }
-    are(copy, want)
+    have_same_journal(copy, original) && copy.refined() == original.refined() && are(copy, want)
 }
 
 /// Follows an entry that is not due, which changes nothing.
@@ -106,18 +109,17 @@ fn follow_none<'a, H: Allocator>(
 /// Lets a copy follow an entry with growth `number` refused, and where memory is then wanting,
 /// which changes nothing, once more with memory: whether it was, or nothing where no growth was
 /// refused. A growth that is only made ahead may be refused and not be wanting.
-fn follow_refused<'a>(
-    heap: &Heap,
-    copy: &mut Fabric<'a, Heap>,
-    entry: &Entry<&'a Heap>,
+fn follow_refused<'a, H: Refuses>(
+    heap: &H,
+    copy: &mut Fabric<'a, H>,
+    entry: &Entry<&'a H>,
     before: &[Parcel],
     number: u64,
 ) -> Result<Option<bool>, Fail> {
     let entries = copy.entries();
     heap.refuse(number);
     let answer = copy.follow(entry);
-    let is_refused = heap.is_spent();
-    heap.refuse(0);
+    let is_refused = was_refused(heap);
     match answer {
         Ok(()) if is_refused => Ok(Some(false)),
         Ok(()) => Ok(None),
@@ -133,10 +135,10 @@ fn follow_refused<'a>(
 }
 
 /// Follows an entry from one copy with each growth refused in turn: whether memory was wanting in some call.
-fn follow_at_last<'a>(
-    heap: &Heap,
-    base: &Fabric<'a, Heap>,
-    entry: &Entry<&'a Heap>,
+fn follow_at_last<'a, H: Refuses>(
+    heap: &H,
+    base: &Fabric<'a, H>,
+    entry: &Entry<&'a H>,
     passage: Passage,
 ) -> Result<bool, Fail> {
     let mut is_wanting = false;
@@ -155,10 +157,10 @@ fn follow_at_last<'a>(
 }
 
 /// Follows the entries in their order, each with each growth refused in turn, and then with none.
-fn follow_refused_in_order<'a>(
-    heap: &Heap,
-    copy: &mut Fabric<'a, Heap>,
-    entries: &[Entry<&'a Heap>],
+fn follow_refused_in_order<'a, H: Refuses>(
+    heap: &H,
+    copy: &mut Fabric<'a, H>,
+    entries: &[Entry<&'a H>],
     passages: &[Passage],
 ) -> Result<(), Fail> {
     for (entry, passage) in entries.iter().zip(passages) {
@@ -195,10 +197,10 @@ fn follows_the_entries_in_their_order(rt: HostRuntime) -> Result<(), Fail> {
 }
 
 /// The same with each growth refused in turn.
-fn follow_refused_halves<'a>(
-    heap: &'a Heap,
-    original: &mut Fabric<'a, Heap>,
-    copy: &mut Fabric<'a, Heap>,
+fn follow_refused_halves<'a, H: Refuses>(
+    heap: &'a H,
+    original: &mut Fabric<'a, H>,
+    copy: &mut Fabric<'a, H>,
 ) -> Result<(), Fail> {
     take(heap, original, &INTO_HALVES)?;
     follow_refused_in_order(heap, copy, original.journal(), &PASSAGES)?;
@@ -209,10 +211,14 @@ fn follow_refused_halves<'a>(
     }
 }
 
-#[test]
-fn follows_where_memory_was_wanting(rt: HostRuntime) -> Result<(), Fail> {
-    let heap = &Refusing::new(rt.alloc(), 0);
+/// The same, of two fabrics of the two parcels.
+fn follow_refused_of_two<H: Refuses>(heap: &H) -> Result<(), Fail> {
     let mut original = fabric(heap, &SQUARE, &RINGS)?;
     let mut copy = fabric(heap, &SQUARE, &RINGS)?;
     follow_refused_halves(heap, &mut original, &mut copy)
+}
+
+#[test]
+fn follows_where_memory_was_wanting(rt: HostRuntime) -> Result<(), Fail> {
+    follow_refused_of_two(&Refusing::new(rt.alloc(), 0))
 }

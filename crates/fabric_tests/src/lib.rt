@@ -12,6 +12,8 @@ mod cities;
 #[cfg(test)]
 mod follows;
 #[cfg(test)]
+mod gone_corners;
+#[cfg(test)]
 mod locating;
 #[cfg(test)]
 mod plain_scans;

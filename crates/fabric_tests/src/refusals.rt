@@ -7,17 +7,14 @@ use fabric_core::{AllFaults, Asked, At, City, CityFault, Layer, LoadFault, LoadR
 use geo_exact::Corner;
 use refusing_alloc::Refusing;
 use ring_core::RingFault;
-use std::alloc::Global;
+use std::alloc::Allocator;
 use std::test::Fail;
 use std::thread::Threads;
-use test_builders::{Place, corner};
-use test_cities::{EAST, SQUARE, WEST, city, records};
+use test_builders::{Place, Refuses, corner, was_refused};
+use test_cities::{EAST, RINGS, SQUARE, WEST, city, records};
 
 /// No call here has so many growths.
 const MOST: u64 = 1000;
-
-/// The heap of the tests here.
-type Heap = Refusing<Global>;
 
 /// A ring and its fault.
 type FaultyRing = (u32, RingFault);
@@ -102,19 +99,21 @@ fn refused(is_refused: bool, told: Verdict) -> Result<bool, Fail> {
 }
 
 /// What the square is answered as a city.
-fn city_of(heap: &Heap, number: u64) -> Result<(Result<City<'_, Heap>, CityFault>, bool), Fail> {
+fn city_of<H: Refuses>(
+    heap: &H,
+    number: u64,
+) -> Result<(Result<City<'_, H>, CityFault>, bool), Fail> {
     let Some(ring) = records(heap, &[&SQUARE])?.pop() else {
         return Err(Fail::new("no ring"));
     };
     heap.refuse(number);
     let city = City::new(heap, ring);
-    let is_refused = heap.is_spent();
-    heap.refuse(0);
+    let is_refused = was_refused(heap);
     Ok((city, is_refused))
 }
 
 /// Makes a city with growth `number` refused, and where it was, once more; whether it was.
-fn is_city_refused(heap: &Heap, number: u64) -> Result<bool, Fail> {
+fn is_city_refused<H: Refuses>(heap: &H, number: u64) -> Result<bool, Fail> {
     let (city, is_refused) = city_of(heap, number)?;
     let told = match &city {
         Ok(city) => Verdict::new(are_at(city.ring.corners.as_slice(), &SQUARE)),
@@ -130,52 +129,74 @@ fn is_city_refused(heap: &Heap, number: u64) -> Result<bool, Fail> {
     }
 }
 
-#[test]
-fn a_city(rt: HostRuntime) -> Result<(), Fail> {
-    let heap = Refusing::new(rt.alloc(), 0);
+/// The first growth of a city that is not made any more.
+fn growths_of_city<H: Refuses>(heap: &H) -> Result<u64, Fail> {
     for number in 1..MOST {
-        if !is_city_refused(&heap, number)? {
-            assert!(rt; number > 1);
-            return Ok(());
+        if !is_city_refused(heap, number)? {
+            return Ok(number);
         }
     }
     Err(Fail::new("each growth was refused"))
+}
+
+#[test]
+fn a_city(rt: HostRuntime) -> Result<(), Fail> {
+    let heap = Refusing::new(rt.alloc(), 0);
+    assert!(rt; growths_of_city(&heap)? > 1);
+    Ok(())
 }
 
 /// The city's ring with the corners of both parcels.
 static REFINED: [Place; 6] = [(0, 0), (60, 0), (100, 0), (100, 100), (60, 100), (0, 100)];
 
 /// Whether a place is inside this parcel.
-fn is_inside(layer: &Layer<'_, Heap>, place: Place, parcel: u64) -> Result<bool, Fail> {
+fn is_inside<H: Allocator>(layer: &Layer<'_, H>, place: Place, parcel: u64) -> Result<bool, Fail> {
     match layer.locate(corner(place)?)? {
         At::Inside(id) => Ok(id == parcel),
         At::OnEdge(_) | At::Outside => Ok(false),
     }
 }
 
-/// Whether a layer shows both parcels whole: their rings, the city's, and what its index finds.
-fn is_whole(layer: &Layer<'_, Heap>) -> Result<bool, Fail> {
-    let rings = [&WEST, &EAST];
-    let are_rings = layer.shapes().count() == 2
-        && layer.shapes().zip(&rings).all(|((_, shape), ring)| are_at(
+/// Whether these are the rings of the layer's parcels, by ascending id.
+fn are_rings<H: Allocator>(layer: &Layer<'_, H>, rings: &[&[Place]]) -> bool {
+    layer.shapes().count() == rings.len()
+        && layer.shapes().zip(rings).all(|((_, shape), ring)| are_at(
             shape.ring.corners.as_slice(),
-            *ring,
-        ));
-    let are_found = between(layer, (60, 0), (60, 0))??.as_slice() == [1u64, 2].as_slice()
-        && between(layer, (0, 0), (59, 100))??.as_slice() == [1u64].as_slice()
-        && between(layer, (62, 0), (100, 100))??.as_slice() == [2u64].as_slice();
+            ring,
+        ))
+}
+
+/// Boxes, and the candidates between their corners.
+static BOXES: [(Place, Place, &[u64]); 3] = [
+    ((60, 0), (60, 0), &[1, 2]),
+    ((0, 0), (59, 100), &[1]),
+    ((62, 0), (100, 100), &[2]),
+];
+
+/// Whether the candidates of each box are found.
+fn are_found<H: Allocator>(layer: &Layer<'_, H>) -> Result<bool, Fail> {
+    for (low, high, want) in &BOXES {
+        if between(layer, *low, *high)??.as_slice() != *want {
+            return Ok(false);
+        }
+    }
+    Ok(true)
+}
+
+/// Whether a layer shows both parcels whole: their rings, the city's, and what its index finds.
+fn is_whole<H: Allocator>(layer: &Layer<'_, H>) -> Result<bool, Fail> {
     Ok(
-        are_rings
-            && are_found
+        are_rings(layer, &RINGS)
             && are_at(layer.city(), &SQUARE)
             && are_at(layer.refined(), &REFINED)
+            && are_found(layer)?
             && is_inside(layer, (10, 10), 1)?
             && is_inside(layer, (61, 50), 2)?,
     )
 }
 
 /// Whether these are the layer's parcels, which are the two rectangles, and it shows them whole.
-fn has_ids(layer: &Layer<'_, Heap>, want: &Answer) -> Result<bool, Fail> {
+fn has_ids<H: Allocator>(layer: &Layer<'_, H>, want: &Answer) -> Result<bool, Fail> {
     let Answer::Ids(ids) = want else {
         return Ok(false);
     };
@@ -207,17 +228,16 @@ fn are_edges(edges: &[(Corner, Corner, i64)], want: &[Edge]) -> bool {
 }
 
 /// What loading a layer with growth `number` refused is answered, and whether that was refused.
-fn loading<'a>(
-    heap: &'a Heap,
-    city: &City<'a, Heap>,
+fn loading<'a, H: Refuses>(
+    heap: &'a H,
+    city: &City<'a, H>,
     row: &Row,
     number: u64,
 ) -> Result<(Verdict, bool), Fail> {
     let rings = records(heap, row.0)?;
     heap.refuse(number);
     let layer = Layer::load(heap, city, rings);
-    let is_refused = heap.is_spent();
-    heap.refuse(0);
+    let is_refused = was_refused(heap);
     let told = match layer {
         Ok(layer) => Verdict::new(has_ids(&layer, &row.1)?),
         Err(LoadFault::NoMemory) => Verdict::NoMemory,
@@ -233,9 +253,9 @@ fn answered_again(first: (Verdict, bool), again: Verdict) -> Result<bool, Fail> 
 }
 
 /// Loads a layer with growth `number` refused, and once more with memory; whether it was refused.
-fn is_loading_refused<'a>(
-    heap: &'a Heap,
-    city: &City<'a, Heap>,
+fn is_loading_refused<'a, H: Refuses>(
+    heap: &'a H,
+    city: &City<'a, H>,
     row: &Row,
     number: u64,
 ) -> Result<bool, Fail> {
@@ -244,7 +264,7 @@ fn is_loading_refused<'a>(
 }
 
 /// Whether these are all faults.
-fn are_all(refusal: &LoadRefusal<&Heap>, want: &Answer) -> bool {
+fn are_all<H: Allocator>(refusal: &LoadRefusal<&H>, want: &Answer) -> bool {
     match (&refusal.all, want) {
         (Some(AllFaults::Rings(rings)), Answer::Rings(want)) => rings.as_slice() == *want,
         (Some(AllFaults::Gaps(gaps)), Answer::Gaps(want)) => are_edges(gaps.as_slice(), want),
@@ -252,30 +272,36 @@ fn are_all(refusal: &LoadRefusal<&Heap>, want: &Answer) -> bool {
     }
 }
 
+/// What an answer is, where all faults are asked for.
+fn verdict_of_all<'a, H: Allocator>(
+    answer: Result<Layer<'a, H>, LoadRefusal<&'a H>>,
+    want: &Answer,
+) -> Result<Verdict, Fail> {
+    match answer {
+        Ok(layer) => Ok(Verdict::new(has_ids(&layer, want)?)),
+        Err(refusal) if refusal.first == LoadFault::NoMemory => Ok(Verdict::NoMemory),
+        Err(refusal) => Ok(Verdict::new(are_all(&refusal, want))),
+    }
+}
+
 /// What loading a layer, or telling all faults, with growth `number` refused is answered, and whether that was refused.
-fn telling<'a>(
-    heap: &'a Heap,
-    city: &City<'a, Heap>,
+fn telling<'a, H: Refuses>(
+    heap: &'a H,
+    city: &City<'a, H>,
     row: &Row,
     number: u64,
 ) -> Result<(Verdict, bool), Fail> {
     let rings = records(heap, row.0)?;
     heap.refuse(number);
     let layer = Layer::load_or_all(heap, city, rings, Asked::All);
-    let is_refused = heap.is_spent();
-    heap.refuse(0);
-    let told = match layer {
-        Ok(layer) => Verdict::new(has_ids(&layer, &row.1)?),
-        Err(refusal) if refusal.first == LoadFault::NoMemory => Verdict::NoMemory,
-        Err(refusal) => Verdict::new(are_all(&refusal, &row.1)),
-    };
-    Ok((told, is_refused))
+    let is_refused = was_refused(heap);
+    Ok((verdict_of_all(layer, &row.1)?, is_refused))
 }
 
 /// Loads a layer, or tells all faults, with growth `number` refused, and once more with memory; whether it was refused.
-fn is_telling_refused<'a>(
-    heap: &'a Heap,
-    city: &City<'a, Heap>,
+fn is_telling_refused<'a, H: Refuses>(
+    heap: &'a H,
+    city: &City<'a, H>,
     row: &Row,
     number: u64,
 ) -> Result<bool, Fail> {
@@ -284,28 +310,22 @@ fn is_telling_refused<'a>(
 }
 
 /// What telling all faults by three threads with growth `number` refused is answered, and whether that was refused.
-fn telling_by<'a, R: Threads + Sync>(
+fn telling_by<'a, H: Refuses + Send + Sync, R: Threads + Sync>(
     rt: &R,
-    heap: &'a Heap,
-    city: &City<'a, Heap>,
+    heap: &'a H,
+    city: &City<'a, H>,
     row: &Row,
     number: u64,
 ) -> Result<(Verdict, bool), Fail> {
     let rings = records(heap, row.0)?;
     heap.refuse(number);
     let layer = Layer::load_or_all_by(rt, 3, heap, city, rings, Asked::All);
-    let is_refused = heap.is_spent();
-    heap.refuse(0);
-    let told = match layer {
-        Ok(layer) => Verdict::new(has_ids(&layer, &row.1)?),
-        Err(refusal) if refusal.first == LoadFault::NoMemory => Verdict::NoMemory,
-        Err(refusal) => Verdict::new(are_all(&refusal, &row.1)),
-    };
-    Ok((told, is_refused))
+    let is_refused = was_refused(heap);
+    Ok((verdict_of_all(layer, &row.1)?, is_refused))
 }
 
 /// The first growth that is not made any more.
-fn growths_of_loading(heap: &Heap, row: &Row) -> Result<u64, Fail> {
+fn growths_of_loading<H: Refuses>(heap: &H, row: &Row) -> Result<u64, Fail> {
     let city = city(heap, &SQUARE)?;
     for number in 1..MOST {
         if !is_loading_refused(heap, &city, row, number)? {
@@ -316,7 +336,7 @@ fn growths_of_loading(heap: &Heap, row: &Row) -> Result<u64, Fail> {
 }
 
 /// The same, where all faults are told.
-fn growths_of_telling(heap: &Heap, row: &Row) -> Result<u64, Fail> {
+fn growths_of_telling<H: Refuses>(heap: &H, row: &Row) -> Result<u64, Fail> {
     let city = city(heap, &SQUARE)?;
     for number in 1..MOST {
         if !is_telling_refused(heap, &city, row, number)? {
@@ -327,7 +347,11 @@ fn growths_of_telling(heap: &Heap, row: &Row) -> Result<u64, Fail> {
 }
 
 /// The same, by three threads.
-fn growths_of_telling_by<R: Threads + Sync>(rt: &R, heap: &Heap, row: &Row) -> Result<u64, Fail> {
+fn growths_of_telling_by<H: Refuses + Send + Sync, R: Threads + Sync>(
+    rt: &R,
+    heap: &H,
+    row: &Row,
+) -> Result<u64, Fail> {
     let city = city(heap, &SQUARE)?;
     for number in 1..MOST {
         let first = telling_by(rt, heap, &city, row, number)?;

@@ -1,33 +1,33 @@
-//! Each growth of opening a fabric, of copying it and of taking a sheet refused in turn; and what a fabric and a sheet answer
-//! to a search, beside a scan of all parcels.
+//! Each growth of opening a fabric, of copying it and of taking a sheet refused in turn; and what a fabric and a sheet
+//! answer to a search, beside a scan of all parcels.
 
-use crate::changes::take;
-use crate::refused_edits::{Heap, are_alike, was_refused};
+use crate::changes::{is_scanned, take};
+use crate::refused_edits::are_alike;
 use crate::steps::INTO_HALVES;
-use fabric_core::{At, Fabric, Layer, Sheet};
-use geo_exact::{Corner, RING_CORNERS};
+use fabric_core::{Fabric, Layer, Sheet};
+use geo_exact::Corner;
 use refusing_alloc::Refusing;
-use ring_core::{Side, side_of};
 use std::alloc::{AllocError, Allocator};
 use std::test::Fail;
-use test_builders::corner;
+use test_builders::{Place, Refuses, corner, was_refused};
 use test_cities::{RINGS, SQUARE, fabric, layer};
 
 /// No call here has so many growths.
 const MOST: u64 = 1000;
 
 /// The fabric of a layer that came back, with memory.
-fn opened_again<'a>(layer: Layer<'a, Heap>) -> Result<Fabric<'a, Heap>, Fail> {
+fn opened_again<'a, H: Refuses>(layer: Layer<'a, H>) -> Result<Fabric<'a, H>, Fail> {
     match Fabric::open(layer) {
         Ok(fabric) => Ok(fabric),
         Err(_) => Err(Fail::new("it is not opened with memory")),
     }
 }
 
-/// Opens a fabric with growth `number` refused, and where the layer then comes back, opens that; whether it was refused.
-fn is_opening_refused<'a>(
-    heap: &'a Heap,
-    want: &Fabric<'a, Heap>,
+/// Opens a fabric with allocation `number` refused, and where the layer then comes back, opens that; whether it was
+/// refused.
+fn is_opening_refused<'a, H: Refuses>(
+    heap: &'a H,
+    want: &Fabric<'a, H>,
     number: u64,
 ) -> Result<bool, Fail> {
     let layer = layer(heap, &SQUARE, &RINGS)?;
@@ -47,21 +47,31 @@ fn is_opening_refused<'a>(
     Ok(is_refused)
 }
 
-#[test]
-fn opens_again(rt: HostRuntime) -> Result<(), Fail> {
-    let heap = Refusing::new(rt.alloc(), 0);
-    let want = fabric(&heap, &SQUARE, &RINGS)?;
+/// The first growth of an opening that is not made any more.
+fn first_unrefused_of_opening<H: Refuses>(heap: &H) -> Result<u64, Fail> {
+    let want = fabric(heap, &SQUARE, &RINGS)?;
     for number in 1..MOST {
-        if !is_opening_refused(&heap, &want, number)? {
-            assert!(rt; number > 1);
-            return Ok(());
+        if !is_opening_refused(heap, &want, number)? {
+            return Ok(number);
         }
     }
     Err(Fail::new("each growth was refused"))
 }
 
+#[test]
+fn opens_again(rt: HostRuntime) -> Result<(), Fail> {
+    let heap = Refusing::new(rt.alloc(), 0);
+    // Opening asks for no memory.
+    assert!(rt; first_unrefused_of_opening(&heap)? == 1);
+    Ok(())
+}
+
 /// Copies a fabric with growth `number` refused, and where it was, once more; whether it was.
-fn is_copying_refused(heap: &Heap, fabric: &Fabric<'_, Heap>, number: u64) -> Result<bool, Fail> {
+fn is_copying_refused<H: Refuses>(
+    heap: &H,
+    fabric: &Fabric<'_, H>,
+    number: u64,
+) -> Result<bool, Fail> {
     heap.refuse(number);
     let copy = fabric.copy();
     let is_refused = was_refused(heap);
@@ -76,33 +86,6 @@ fn is_copying_refused(heap: &Heap, fabric: &Fabric<'_, Heap>, number: u64) -> Re
         return Err(Fail::new("another fabric"));
     }
     Ok(is_refused)
-}
-
-/// Whether a place is located, by this answer, where the rings of all parcels of a fabric say that it is.
-fn is_scanned<H: Allocator>(
-    heap: &H,
-    fabric: &Fabric<'_, H>,
-    place: Corner,
-    answer: &At<&H>,
-) -> Result<bool, Fail> {
-    let mut on_edge = Vec::new(heap);
-    let mut inside = None;
-    for (id, shape) in fabric.shapes() {
-        let ring = shape.ring.corners.as_slice();
-        if ring.len() > RING_CORNERS {
-            return Err(Fail::new("a ring that no layer has"));
-        }
-        match side_of(ring, place) {
-            Side::Inside => inside = Some(id),
-            Side::OnEdge => on_edge.push(id)?,
-            Side::Outside => {}
-        }
-    }
-    Ok(match answer {
-        At::OnEdge(ids) => !ids.is_empty() && ids.as_slice() == on_edge.as_slice(),
-        At::Inside(id) => on_edge.is_empty() && inside == Some(*id),
-        At::Outside => on_edge.is_empty() && inside.is_none(),
-    })
 }
 
 /// The candidates between two corners: of a sheet, and of its fabric.
@@ -127,30 +110,43 @@ static BOXES: [((i64, i64), (i64, i64), &[u64]); 4] = [
     ((0, 0), (100, 100), &[2, 3, 4]),
 ];
 
-/// Whether a sheet shows what its fabric shows, and both answer searches as they have to.
-fn is_sheet_of<'a>(
-    heap: &'a Heap,
-    fabric: &Fabric<'a, Heap>,
-    sheet: &Sheet<'a, Heap>,
-) -> Result<bool, Fail> {
+/// Whether a sheet shows what its fabric shows.
+fn shows_alike<'a, H: Allocator>(fabric: &Fabric<'a, H>, sheet: &Sheet<'a, H>) -> bool {
     if !sheet.ids().eq(fabric.ids()) || sheet.entries() != fabric.entries() {
-        return Ok(false);
-    }
-    if sheet.city() != fabric.city() || sheet.refined() != fabric.refined() {
-        return Ok(false);
+        return false;
     }
     for ((_, shape), (_, it)) in sheet.shapes().zip(fabric.shapes()) {
         if shape.ring.corners != it.ring.corners {
-            return Ok(false);
+            return false;
         }
     }
+    sheet.city() == fabric.city() && sheet.refined() == fabric.refined()
+}
+
+/// Whether a sheet and its fabric have the candidates of each box.
+fn have_candidates<'a, H: Allocator>(
+    fabric: &Fabric<'a, H>,
+    sheet: &Sheet<'a, H>,
+) -> Result<bool, Fail> {
     for (low, high, want) in &BOXES {
         let (of_sheet, of_fabric) = between(fabric, sheet, corner(*low)?, corner(*high)?)??;
         if of_sheet.as_slice() != *want || of_fabric.as_slice() != *want {
             return Ok(false);
         }
     }
-    for place in &[(10, 10), (30, 50), (60, 50), (80, 1), (60, 0), (101, 5)] {
+    Ok(true)
+}
+
+/// Places in the parcels behind the cut, on their edges, and outside the city.
+static PLACES: [Place; 6] = [(10, 10), (30, 50), (60, 50), (80, 1), (60, 0), (101, 5)];
+
+/// Whether a sheet and its fabric locate each place where the rings of all parcels say that it is.
+fn are_scanned<'a, H: Allocator>(
+    heap: &'a H,
+    fabric: &Fabric<'a, H>,
+    sheet: &Sheet<'a, H>,
+) -> Result<bool, Fail> {
+    for place in &PLACES {
         let place = corner(*place)?;
         let is_so = is_scanned(heap, fabric, place, &sheet.locate(place)?)?
             && is_scanned(heap, fabric, place, &fabric.locate(place)?)?;
@@ -161,10 +157,23 @@ fn is_sheet_of<'a>(
     Ok(true)
 }
 
+/// Whether a sheet shows what its fabric shows, and both answer searches as they have to.
+fn is_sheet_of<'a, H: Allocator>(
+    heap: &'a H,
+    fabric: &Fabric<'a, H>,
+    sheet: &Sheet<'a, H>,
+) -> Result<bool, Fail> {
+    Ok(
+        shows_alike(fabric, sheet)
+            && have_candidates(fabric, sheet)?
+            && are_scanned(heap, fabric, sheet)?,
+    )
+}
+
 /// Takes a sheet with growth `number` refused, and where it was, once more; whether it was.
-fn is_sheet_refused<'a>(
-    heap: &'a Heap,
-    fabric: &Fabric<'a, Heap>,
+fn is_sheet_refused<'a, H: Refuses>(
+    heap: &'a H,
+    fabric: &Fabric<'a, H>,
     number: u64,
 ) -> Result<bool, Fail> {
     heap.refuse(number);
@@ -184,9 +193,9 @@ fn is_sheet_refused<'a>(
 }
 
 /// The first growth of a copy, or of a sheet, that is not made any more.
-fn first_unrefused<'a>(
-    heap: &'a Heap,
-    fabric: &Fabric<'a, Heap>,
+fn first_unrefused<'a, H: Refuses>(
+    heap: &'a H,
+    fabric: &Fabric<'a, H>,
     is_of_sheet: bool,
 ) -> Result<u64, Fail> {
     for number in 1..MOST {
@@ -202,12 +211,17 @@ fn first_unrefused<'a>(
     Err(Fail::new("each growth was refused"))
 }
 
+/// The same, of the fabric of the halves.
+fn first_unrefused_of_halves<H: Refuses>(heap: &H, is_of_sheet: bool) -> Result<u64, Fail> {
+    let mut fabric = fabric(heap, &SQUARE, &RINGS)?;
+    take(heap, &mut fabric, &INTO_HALVES)?;
+    first_unrefused(heap, &fabric, is_of_sheet)
+}
+
 #[test]
 fn copies_again(rt: HostRuntime) -> Result<(), Fail> {
     let heap = Refusing::new(rt.alloc(), 0);
-    let mut fabric = fabric(&heap, &SQUARE, &RINGS)?;
-    take(&heap, &mut fabric, &INTO_HALVES)?;
-    assert!(rt; first_unrefused(&heap, &fabric, false)? > 10);
-    assert!(rt; first_unrefused(&heap, &fabric, true)? > 10);
+    assert!(rt; first_unrefused_of_halves(&heap, false)? > 10);
+    assert!(rt; first_unrefused_of_halves(&heap, true)? > 10);
     Ok(())
 }

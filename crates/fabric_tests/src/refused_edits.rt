@@ -1,34 +1,25 @@
-//! Each growth of an edit refused in turn: the answer is want of memory, nothing has changed, and the
-//! same edit with memory is answered as its row says and leads to the same fabric.
+//! Each growth of an edit refused in turn: a refusal that needs no memory is told all the same; else the answer is that
+//! memory ran out, nothing has changed, and the same edit with memory is answered as its row says and leads to the same
+//! fabric.
 
 use crate::changes::{CLERK, Change, Step, edit_of, take};
-use crate::follows::is_same_entry;
+use crate::follows::have_same_journal;
 use crate::steps::{BACK_TO_ONE, INTO_HALVES, OF_TWO, WESTWARD};
 use crate::straightens::{BOTH_CORNERS_OUT, OF_THREE, THREE_RINGS};
 use fabric_core::{Fabric, Refusal};
 use geo_exact::Corner;
 use refusing_alloc::Refusing;
 use ring_edits::Edit;
-use std::alloc::{Allocator, Global};
+use std::alloc::Allocator;
 use std::test::Fail;
-use test_builders::corner;
+use test_builders::{Refuses, corner, was_refused};
 use test_cities::{RINGS, SQUARE, fabric};
 
 /// No edit here has so many growths.
 const MOST: u64 = 1000;
 
-/// The heap of the tests here.
-pub type Heap = Refusing<Global>;
-
 /// Where the boxes begin between which candidates are compared, on both axes; each is 25 wide and high.
 static BEGINNINGS: [i64; 5] = [-20, 0, 25, 50, 75];
-
-/// Ends the refusing of growths; whether one was refused.
-pub fn was_refused(heap: &Heap) -> bool {
-    let is_refused = heap.is_spent();
-    heap.refuse(0);
-    is_refused
-}
 
 /// Whether both have the same candidates between two corners.
 fn are_alike_between<'a, H: Allocator>(
@@ -59,21 +50,6 @@ fn are_indexed_alike<'a, H: Allocator>(
         }
     }
     Ok(true)
-}
-
-/// Whether both have the same journal.
-fn have_same_journal<'a, H: Allocator>(fabric: &Fabric<'a, H>, other: &Fabric<'a, H>) -> bool {
-    let entries = fabric.journal();
-    let others = other.journal();
-    if entries.len() != others.len() {
-        return false;
-    }
-    for place in 0..entries.len() {
-        if !is_same_entry(&entries[place], &others[place]) {
-            return false;
-        }
-    }
-    true
 }
 
 /// Whether both show the same rows, rings of the city and index.
@@ -113,28 +89,51 @@ fn answer<'a, H: Allocator>(
 
 /// An edit of a fabric, its answer, an edit behind it that is accepted, and the fabric after both.
 #[derive(Drop)]
-struct Trial<'f, 'a> {
-    heap: &'a Heap,
-    before: &'f Fabric<'a, Heap>,
-    edit: Edit<&'a Heap>,
+struct Trial<'f, 'a, H: Refuses> {
+    heap: &'a H,
+    before: &'f Fabric<'a, H>,
+    edit: Edit<&'a H>,
     want: Result<u64, Refusal>,
-    probe: Edit<&'a Heap>,
-    behind: Fabric<'a, Heap>,
+    probe: Edit<&'a H>,
+    behind: Fabric<'a, H>,
 }
 
 /// Whether the edit behind that of a trial leads to the same fabric, so that the next id is the same too.
-fn ends_alike<'a>(trial: &Trial<'_, 'a>, fabric: &mut Fabric<'a, Heap>) -> Result<bool, Fail> {
+fn ends_alike<'a, H: Refuses>(
+    trial: &Trial<'_, 'a, H>,
+    fabric: &mut Fabric<'a, H>,
+) -> Result<bool, Fail> {
     Ok(answer(fabric, &trial.probe).is_ok() && are_alike(fabric, &trial.behind)?)
+}
+
+/// Whether an answer is a refusal that is told whatever memory there is: E9, E1 to E5, E7 or E11.
+fn needs_no_memory(answer: &Result<u64, Refusal>) -> bool {
+    matches!(
+        answer,
+        Err(
+            Refusal::JournalFull
+                | Refusal::Unknown(_)
+                | Refusal::Retired { .. }
+                | Refusal::BadPath
+                | Refusal::NotNeighbours
+                | Refusal::SharedTwice
+                | Refusal::NoSuchEdge
+                | Refusal::NoSuchCorner
+        )
+    )
 }
 
 /// Makes the edit of a copy with growth `number` refused, and where memory is then wanting, which changes nothing, once
 /// more; whether it was refused. A growth that is only made ahead may be refused and not be wanting.
-fn is_edit_refused<'a>(trial: &Trial<'_, 'a>, number: u64) -> Result<bool, Fail> {
+fn is_edit_refused<'a, H: Refuses>(trial: &Trial<'_, 'a, H>, number: u64) -> Result<bool, Fail> {
     let mut fabric = trial.before.copy()?;
     trial.heap.refuse(number);
     let mut told = answer(&mut fabric, &trial.edit);
     let is_refused = was_refused(trial.heap);
     if is_refused && told == Err(Refusal::NoMemory) {
+        if needs_no_memory(&trial.want) {
+            return Err(Fail::new("memory ran out for what needs none"));
+        }
         if !are_alike(&fabric, trial.before)? {
             return Err(Fail::new("a refused edit changed something"));
         }
@@ -150,12 +149,12 @@ fn is_edit_refused<'a>(trial: &Trial<'_, 'a>, number: u64) -> Result<bool, Fail>
 }
 
 /// The trial of a step.
-fn trial_of<'f, 'a>(
-    heap: &'a Heap,
-    before: &'f Fabric<'a, Heap>,
+fn trial_of<'f, 'a, H: Refuses>(
+    heap: &'a H,
+    before: &'f Fabric<'a, H>,
     step: &Step,
     probe: Change,
-) -> Result<Trial<'f, 'a>, Fail> {
+) -> Result<Trial<'f, 'a, H>, Fail> {
     let edit = edit_of(heap, step.0)?;
     let probe = edit_of(heap, probe)?;
     let mut behind = before.copy()?;
@@ -173,9 +172,9 @@ fn trial_of<'f, 'a>(
 }
 
 /// How many growths of a step's edit are refused in turn, before there is none of that number.
-fn growths_of<'a>(
-    heap: &'a Heap,
-    before: &Fabric<'a, Heap>,
+fn growths_of<'a, H: Refuses>(
+    heap: &'a H,
+    before: &Fabric<'a, H>,
     step: &Step,
     probe: Change,
 ) -> Result<u64, Fail> {
@@ -189,9 +188,9 @@ fn growths_of<'a>(
 }
 
 /// Refuses each growth of each step in turn, and then makes the step: how many growths each accepted edit has at least.
-fn take_refused<'a>(
-    heap: &'a Heap,
-    fabric: &mut Fabric<'a, Heap>,
+fn take_refused<'a, H: Refuses>(
+    heap: &'a H,
+    fabric: &mut Fabric<'a, H>,
     steps: &[Step],
     probes: &[Change],
 ) -> Result<u64, Fail> {
@@ -223,13 +222,19 @@ static BEHIND_ONE: [Change; 2] = [Change::Merge(2, 5), Change::Merge(2, 5)];
 /// What is done behind each step of taking corners out.
 static BEHIND_STRAIGHT: [Change; 6] = [Change::Merge(2, 5); 6];
 
+/// The least number of growths that an accepted edit of the two parcels has, until both corners of the halves are out.
+fn least_of_two<H: Refuses>(heap: &H) -> Result<u64, Fail> {
+    let mut fabric = fabric(heap, &SQUARE, &RINGS)?;
+    let halves = take_refused(heap, &mut fabric, &INTO_HALVES, &BEHIND_HALVES)?;
+    let one = take_refused(heap, &mut fabric, &BACK_TO_ONE, &BEHIND_ONE)?;
+    let out = take_refused(heap, &mut fabric, &BOTH_CORNERS_OUT, &BEHIND_STRAIGHT)?;
+    Ok(halves.min(one).min(out))
+}
+
 #[test]
 fn cuts_and_merges(rt: HostRuntime) -> Result<(), Fail> {
     let heap = Refusing::new(rt.alloc(), 0);
-    let mut fabric = fabric(&heap, &SQUARE, &RINGS)?;
-    assert!(rt; take_refused(&heap, &mut fabric, &INTO_HALVES, &BEHIND_HALVES)? > 3);
-    assert!(rt; take_refused(&heap, &mut fabric, &BACK_TO_ONE, &BEHIND_ONE)? > 3);
-    assert!(rt; take_refused(&heap, &mut fabric, &BOTH_CORNERS_OUT, &BEHIND_STRAIGHT)? > 3);
+    assert!(rt; least_of_two(&heap)? > 3);
     Ok(())
 }
 
@@ -246,29 +251,41 @@ static BEHIND_THREE: [Change; 9] = [
     Change::Merge(1, 4),
 ];
 
-#[test]
-fn takes_out_of_three(rt: HostRuntime) -> Result<(), Fail> {
-    let heap = Refusing::new(rt.alloc(), 0);
-    let mut fabric = fabric(&heap, &SQUARE, &THREE_RINGS)?;
-    assert!(rt; take_refused(&heap, &mut fabric, &OF_THREE, &BEHIND_THREE)? > 3);
-    Ok(())
+/// The least number of growths that an accepted edit of the three parcels has.
+fn least_of_three<H: Refuses>(heap: &H) -> Result<u64, Fail> {
+    let mut fabric = fabric(heap, &SQUARE, &THREE_RINGS)?;
+    take_refused(heap, &mut fabric, &OF_THREE, &BEHIND_THREE)
 }
 
 #[test]
-fn edits_of_two(rt: HostRuntime) -> Result<(), Fail> {
+fn takes_out_of_three(rt: HostRuntime) -> Result<(), Fail> {
     let heap = Refusing::new(rt.alloc(), 0);
-    let fabric = fabric(&heap, &SQUARE, &RINGS)?;
+    assert!(rt; least_of_three(&heap)? > 3);
+    Ok(())
+}
+
+/// What is done behind an edit of the two parcels.
+fn behind(step: &Step) -> Change {
+    if step.1 == Ok(1) {
+        Change::Merge(3, 4)
+    } else {
+        Change::Move(1, 2, &WESTWARD)
+    }
+}
+
+/// Tries the edits of the two parcels up to the one that moves their border.
+fn try_edits_of_two<H: Refuses>(heap: &H) -> Result<(), Fail> {
+    let fabric = fabric(heap, &SQUARE, &RINGS)?;
     for step in &OF_TWO {
-        let is_moved = step.1 == Ok(1);
-        let probe = if is_moved {
-            Change::Merge(3, 4)
-        } else {
-            Change::Move(1, 2, &WESTWARD)
-        };
-        growths_of(&heap, &fabric, step, probe)?;
-        if is_moved {
+        growths_of(heap, &fabric, step, behind(step))?;
+        if step.1 == Ok(1) {
             return Ok(());
         }
     }
     Err(Fail::new("no border was moved"))
+}
+
+#[test]
+fn edits_of_two(rt: HostRuntime) -> Result<(), Fail> {
+    try_edits_of_two(&Refusing::new(rt.alloc(), 0))
 }

@@ -4,25 +4,24 @@
 use crate::candidates::between;
 use fabric_core::{At, Layer};
 use refusing_alloc::Refusing;
-use std::alloc::Global;
 use std::test::Fail;
-use test_builders::corner;
+use test_builders::{Refuses, corner, was_refused};
 use test_cities::{RINGS, SQUARE, layer};
 
 /// No call here has so many growths.
 const MOST: u64 = 100;
 
-/// The heap of the tests here.
-type Heap = Refusing<Global>;
-
 /// A corner is located on the edge of both parcels, or growth `number` is refused, and then it is
 /// located with memory; whether it was refused.
-fn is_locating_refused(heap: &Heap, layer: &Layer<'_, Heap>, number: u64) -> Result<bool, Fail> {
+fn is_locating_refused<H: Refuses>(
+    heap: &H,
+    layer: &Layer<'_, H>,
+    number: u64,
+) -> Result<bool, Fail> {
     let corner = corner((60, 50))?;
     heap.refuse(number);
     let located = layer.locate(corner);
-    let is_refused = heap.is_spent();
-    heap.refuse(0);
+    let is_refused = was_refused(heap);
     if located.is_err() != is_refused {
         return Err(Fail::new("a refusal is told, and nothing else is"));
     }
@@ -37,26 +36,34 @@ fn is_locating_refused(heap: &Heap, layer: &Layer<'_, Heap>, number: u64) -> Res
     }
 }
 
-#[test]
-fn locating(rt: HostRuntime) -> Result<(), Fail> {
-    let heap = Refusing::new(rt.alloc(), 0);
-    let layer = layer(&heap, &SQUARE, &RINGS)?;
+/// The first growth of locating that is not made any more.
+fn first_unrefused_of_locating<H: Refuses>(heap: &H) -> Result<u64, Fail> {
+    let layer = layer(heap, &SQUARE, &RINGS)?;
     for number in 1..MOST {
-        if !is_locating_refused(&heap, &layer, number)? {
-            assert!(rt; number > 1);
-            return Ok(());
+        if !is_locating_refused(heap, &layer, number)? {
+            return Ok(number);
         }
     }
     Err(Fail::new("each growth was refused"))
 }
 
+#[test]
+fn locating(rt: HostRuntime) -> Result<(), Fail> {
+    let heap = Refusing::new(rt.alloc(), 0);
+    assert!(rt; first_unrefused_of_locating(&heap)? > 1);
+    Ok(())
+}
+
 /// The candidates of both parcels' border are found, or growth `number` is refused, and then they
 /// are found with memory; whether it was refused.
-fn is_finding_refused(heap: &Heap, layer: &Layer<'_, Heap>, number: u64) -> Result<bool, Fail> {
+fn is_finding_refused<H: Refuses>(
+    heap: &H,
+    layer: &Layer<'_, H>,
+    number: u64,
+) -> Result<bool, Fail> {
     heap.refuse(number);
     let found = between(layer, (60, 0), (60, 100))?;
-    let is_refused = heap.is_spent();
-    heap.refuse(0);
+    let is_refused = was_refused(heap);
     if found.is_err() != is_refused {
         return Err(Fail::new("a refusal is told, and nothing else is"));
     }
@@ -71,15 +78,20 @@ fn is_finding_refused(heap: &Heap, layer: &Layer<'_, Heap>, number: u64) -> Resu
     Ok(is_refused)
 }
 
-#[test]
-fn finding_candidates(rt: HostRuntime) -> Result<(), Fail> {
-    let heap = Refusing::new(rt.alloc(), 0);
-    let layer = layer(&heap, &SQUARE, &RINGS)?;
+/// The first growth of finding candidates that is not made any more.
+fn first_unrefused_of_finding<H: Refuses>(heap: &H) -> Result<u64, Fail> {
+    let layer = layer(heap, &SQUARE, &RINGS)?;
     for number in 1..MOST {
-        if !is_finding_refused(&heap, &layer, number)? {
-            assert!(rt; number > 2);
-            return Ok(());
+        if !is_finding_refused(heap, &layer, number)? {
+            return Ok(number);
         }
     }
     Err(Fail::new("each growth was refused"))
+}
+
+#[test]
+fn finding_candidates(rt: HostRuntime) -> Result<(), Fail> {
+    let heap = Refusing::new(rt.alloc(), 0);
+    assert!(rt; first_unrefused_of_finding(&heap)? > 2);
+    Ok(())
 }

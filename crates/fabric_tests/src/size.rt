@@ -43,10 +43,8 @@ fn first_of_two(heap: &Global, below: &[Place]) -> Result<Result<usize, LoadFaul
 #[test]
 fn nodes_a_border_of_the_most_corners(rt: HostRuntime) -> Result<(), Fail> {
     let heap = &rt.alloc();
-    let most = first_of_two(heap, &BELOW)?;
-    assert_eq!(rt; most, Ok(RING_CORNERS));
-    let more = first_of_two(heap, &MORE)?;
-    assert_eq!(rt; more, Err(LoadFault::TooMany(1)));
+    assert!(rt; first_of_two(heap, &BELOW)? == Ok(RING_CORNERS));
+    assert!(rt; first_of_two(heap, &MORE)? == Err(LoadFault::TooMany(1)));
     Ok(())
 }
 
@@ -77,7 +75,6 @@ fn last_of<'a>(heap: &'a Global, lists: &[Corners<&'a Global>]) -> Result<(usize
 fn loads_the_most_parcels(rt: HostRuntime) -> Result<(), Fail> {
     let heap = &rt.alloc();
     let lists = most_rectangles(heap)?;
-    let last = last_of(heap, &lists)?;
-    assert_eq!(rt; last, (LAYER_RECORDS as usize, true));
+    assert!(rt; last_of(heap, &lists)? == (LAYER_RECORDS as usize, true));
     Ok(())
 }

@@ -253,7 +253,8 @@ fn drawn_insert(
     drawn_on_edge(fabric.ring(id)?.corners.as_slice(), place, words)
 }
 
-/// Puts a corner into an edge, which changes the fabric, and takes it out, after which it has to show what it did before.
+/// Puts a corner into an edge, which changes the fabric, and takes it out, after
+/// which it has to show what it did before.
 fn put_and_take_out<'a>(
     fabric: &mut Fabric<'a, Global>,
     before: &Fabric<'a, Global>,
@@ -302,8 +303,10 @@ fn puts_back_what_an_insert_changed(rt: HostRuntime) -> Result<(), Fail> {
     let heap = &rt.alloc();
     let mut words = Pcg32::new(42, 59);
     for number in 0..LAYERS {
-        let count = count_in_drawn(heap, &mut words)?;
-        assert_eq!(rt; count, EDGES, "layer {number}");
+        assert!(rt;
+            count_in_drawn(heap, &mut words)? == EDGES,
+            "layer {number}"
+        );
     }
     Ok(())
 }

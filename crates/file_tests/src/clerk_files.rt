@@ -69,7 +69,8 @@ static EDITS: [(&[u8], &str); 18] = [
     ),
     (
         b"insert 0 0 60 0 30 0\ninsert 0 100 60 100 30 100\nsplit 1 30 0 30 100\nsplit 1 30 0 30 100\nmerge 3 4\n",
-        "1: insert 0 0 60 0 30 0\n2: insert 0 100 60 100 30 100\n3: split 1 30 0 30 100\n4: split 1 30 0 30 100\n5: merge 3 4\n",
+        "1: insert 0 0 60 0 30 0\n2: insert 0 100 60 100 30 100\n3: split 1 30 0 30 100\n\
+         4: split 1 30 0 30 100\n5: merge 3 4\n",
     ),
     // a path of one corner is refused by the fabric
     (b"split 1 5 6", "1: split 1 5 6\n"),

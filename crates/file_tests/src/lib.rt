@@ -1,5 +1,5 @@
 //! Tests of files: layer files, read and written, and files that are read line by line, or written so. Worked
-//! examples, each cut and each fault, the first bad line, growths that are refused, and layers of
+//! examples, each cut and each fault, the first bad line, allocations that are refused, and layers of
 //! the greatest size.
 #![tactic(auto)]
 
@@ -16,7 +16,7 @@ mod reading;
 #[cfg(test)]
 mod refusals;
 #[cfg(test)]
-mod refused_growths;
+mod refused_allocations;
 #[cfg(test)]
 mod size;
 #[cfg(test)]

@@ -1,4 +1,4 @@
-//! Each growth of a call refused in turn: its answer is want of memory, and with memory the same
+//! Each allocation of a call refused in turn: its answer is want of memory, and with memory the same
 //! call gives the answer that it has to give.
 
 use crate::write_rows::{INDEX, MAIN};
@@ -11,13 +11,13 @@ use std::io::Read;
 use std::test::Fail;
 use test_builders::SQUARE;
 
-/// No call here has so many growths.
+/// No call here makes so many allocations.
 const MOST: u64 = 1000;
 
 /// The heap of the tests here.
 type Heap = Refusing<Global>;
 
-/// The square is read, or growth `number` is refused, and then it is read with memory; whether it was refused.
+/// The square is read, or allocation `number` is refused, and then it is read with memory; whether it was refused.
 fn is_reading_refused(heap: &Heap, number: u64, index: Option<&[u8]>) -> Result<bool, Fail> {
     heap.refuse(number);
     let read = read_layer(heap, &MAIN, index, Unit::Mm);
@@ -52,7 +52,8 @@ fn reading_a_layer(rt: HostRuntime) -> Result<(), Fail> {
     Ok(())
 }
 
-/// The square is written, or growth `number` is refused, and then it is written with memory; whether it was refused.
+/// The square is written, or allocation `number` is refused, and then it is written
+/// with memory; whether it was refused.
 fn is_writing_refused(heap: &Heap, number: u64) -> Result<bool, Fail> {
     let Some(ring) = read_layer(heap, &MAIN, None, Unit::Mm)?.pop() else {
         return Err(Fail::new("no ring"));
@@ -84,10 +85,10 @@ fn writing_a_layer(rt: HostRuntime) -> Result<(), Fail> {
             return Ok(());
         }
     }
-    Err(Fail::new("each growth was refused"))
+    Err(Fail::new("each allocation was refused"))
 }
 
-/// A reader of 100,000 bytes is read, in seven pulls, or growth `number` is refused, and then it is
+/// A reader of 100,000 bytes is read, in seven pulls, or allocation `number` is refused, and then it is
 /// read with memory; whether it was refused.
 fn are_all_bytes_refused(heap: &Heap, number: u64) -> Result<bool, Fail> {
     let mut reader = Counted::new(io::repeat(7).take(100_000));
@@ -117,5 +118,5 @@ fn reading_all_bytes(rt: HostRuntime) -> Result<(), Fail> {
             return Ok(());
         }
     }
-    Err(Fail::new("each growth was refused"))
+    Err(Fail::new("each allocation was refused"))
 }

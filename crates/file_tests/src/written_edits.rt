@@ -132,8 +132,8 @@ fn what_was_written_otherwise_is_written_so(rt: HostRuntime) -> Result<(), Fail>
     Ok(())
 }
 
-/// Whether growth `number` of the reading and the writing of three edits was refused. The answer has to be want of memory
-/// exactly then, and else the text.
+/// Whether allocation `number` of the reading and the writing of three edits was refused. The answer has to be want of
+/// memory exactly then, and else the text.
 fn is_refused(heap: &Refusing<Global>, number: u64) -> Result<bool, Fail> {
     let text = b"split 1 0 0 1 1 2 2 3 3 4 4\nmerge 3 4\nstraighten 30 0\n".as_slice();
     heap.refuse(number);
@@ -146,7 +146,7 @@ fn is_refused(heap: &Refusing<Global>, number: u64) -> Result<bool, Fail> {
 }
 
 #[test]
-fn each_growth_refused(rt: HostRuntime) -> Result<(), Fail> {
+fn each_allocation_refused(rt: HostRuntime) -> Result<(), Fail> {
     let heap = Refusing::new(rt.alloc(), 0);
     for number in 1..100 {
         if !is_refused(&heap, number)? {
@@ -154,5 +154,5 @@ fn each_growth_refused(rt: HostRuntime) -> Result<(), Fail> {
             return Ok(());
         }
     }
-    Err(Fail::new("each growth was refused"))
+    Err(Fail::new("each allocation was refused"))
 }

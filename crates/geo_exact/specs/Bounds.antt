@@ -34,7 +34,7 @@ IsBeyondBox p box =
     (p.x <ℤ (box.low.x *ℤ p.d)) ⊎ ((box.high.x *ℤ p.d) <ℤ p.x) ⊎ (p.y <ℤ (box.low.y *ℤ p.d))
     ⊎ ((box.high.y *ℤ p.d) <ℤ p.y)
 
--- the box has no inner place: in x or in y it ends where it begins, or before
+-- the box has no inner point: in x or in y it ends where it begins, or before
 abbrev pub IsEmptyBox : Bounds → Type 0
 IsEmptyBox box = (box.high.x ≤ℤ box.low.x) ⊎ (box.high.y ≤ℤ box.low.y)
 
@@ -52,7 +52,8 @@ LiesBetween u v s t = (u ≤ℤ s) × (t ≤ℤ v)
 
 -- the second box reaches as far as the first on each side
 abbrev pub IsWider : Bounds → Bounds → Type 0
-IsWider box wider = LiesBetween wider.low.x wider.high.x box.low.x box.high.x × LiesBetween wider.low.y wider.high.y box.low.y box.high.y
+IsWider box wider = LiesBetween wider.low.x wider.high.x box.low.x box.high.x
+    × LiesBetween wider.low.y wider.high.y box.low.y box.high.y
 
 -- the least box of the corners: it holds them all, and every box that does reaches as far
 pub record IsLeastBox (box : Bounds) (corners : List Corner) : Type 0 where

@@ -17,8 +17,8 @@ abbrev pub counted : {E : Type 0} → Result ℕ E → ℕ → ℕ
 counted (Ok n) count = count
 counted (Err failed) count = raised count
 
--- A pull into a buffer: at Ok n the first n bytes of the told ones went to its front, none only at their end or with no room;
--- at a failure none went.
+-- A pull into a buffer: at Ok n the first n bytes of the told ones went to its front, none only at their end or with no
+-- room; at a failure none went.
 abbrev pub Pulls : {E : Type 0} → Option (List ℕ) → Option (List ℕ) → Result ℕ E → List ℕ → Type 0
 Pulls old new (Ok n) buffer = Consumes old new (take n buffer) × (n ≡ 0 → 0 < length buffer → IsAtEnd new)
 Pulls old new (Err failed) buffer = Keeps old new
@@ -28,8 +28,8 @@ abbrev pub Puts : {E : Type 0} → Option (List ℕ) → Option (List ℕ) → R
 Puts old new (Ok n) bytes = Appends old new (take n bytes)
 Puts old new (Err failed) bytes = Keeps old new
 
--- A call of a stream that fails at one call, from now on the one of this number: that one fails and leaves all as it was, and another is
--- passed on.
+-- A call of a stream that fails at one call, from now on the one of this number: that one fails and leaves all as it
+-- was, and another is passed on.
 pub record FailsOrPassesOn {E : Type 0} (call : ℕ) (answer : Result ℕ E) (Leaves PassesOn : Type 0) : Type 0 where
   pub fails : call ≡ 1 → IsErr answer × Leaves
   pub passes_on : call ≢ 1 → PassesOn

@@ -1,4 +1,5 @@
--- The first number with a property, and the first pair of numbers (this product's own words for 'the first that applies').
+-- The first number with a property, and the first pair of numbers (this product's
+-- own words for 'the first that applies').
 use Rattle.std.specs.Prelude.{◌≡◌, ◌⊎◌, ℕ, ◌<◌}
 
 -- no number below n has the property

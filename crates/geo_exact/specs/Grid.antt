@@ -1,4 +1,5 @@
--- The millimetre grid of a double (Technical Description, July 1998, "Numeric Types"; IEEE 754, binary64: its fields and its value).
+-- The millimetre grid of a double (Technical Description, July 1998, "Numeric Types"; IEEE 754, binary64: its fields
+-- and its value).
 use Rattle.std.specs.Prelude.{◌≡◌, ℕ, ◌+◌, ◌*◌, ◌/◌, ◌%◌, ◌^◌, ◌<◌, ℤ, pos, neg_ℤ, ◌-ℤ◌}
 use Rattle.std.specs.Prelude.{◌*ℤ◌, ◌==◌, Bool, nat_lt, nat_le, if◌then◌else◌, Result, Ok, Err}
 use Rattle.std.specs.Int.{abs_diff}
@@ -36,8 +37,8 @@ magnitude bits =
 abbrev pub scaled_value : ℕ → ℤ
 scaled_value bits = if sign_bit bits == 0 then pos (magnitude bits) else neg_ℤ (pos (magnitude bits))
 
--- The double is a number, and within 1/1024 of k millimetres: with v its value and s the unit's millimetres, |s v - k| * 1024 <= 1.
--- Both sides stand here times 2 ^ 1075.
+-- The double is a number, and within 1/1024 of k millimetres: with v its value and s the unit's millimetres, |s v - k|
+-- * 1024 <= 1. Both sides stand here times 2 ^ 1075.
 pub record IsOnGrid (bits : ℕ) (unit : Unit) (k : ℤ) : Type 0 where
   pub is_number : exponent_field bits < 2047
   pub is_near : IsWithin (2 ^ 1075) ((pos (millimetres unit) *ℤ scaled_value bits -ℤ k *ℤ pos (2 ^ 1075)) *ℤ pos 1024)

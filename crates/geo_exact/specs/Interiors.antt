@@ -1,5 +1,5 @@
--- Whether two interiors meet: the first entry of the nine-intersection matrix is not empty (OGC 06-103r4, 6.1.15.2, DE-9IM).
--- This is not that standard's predicate Overlaps, which leaves out containment.
+-- Whether two interiors meet: the first entry of the nine-intersection matrix is not empty (OGC 06-103r4, 6.1.15.2,
+-- DE-9IM). This is not that standard's predicate Overlaps, which leaves out containment.
 use Rattle.std.specs.Prelude.{List}
 use Rattle.geo_exact.specs.declared.corner.Corner.{Corner}
 use Rattle.geo_exact.specs.Point.{Point}

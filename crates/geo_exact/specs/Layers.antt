@@ -1,4 +1,5 @@
--- The rings of a layer under their records' numbers (Technical Description, July 1998, "Record Headers": records are numbered from 1).
+-- The rings of a layer under their records' numbers (Technical Description, July 1998, "Record Headers": records are
+-- numbered from 1).
 use Rattle.std.specs.Prelude.{ℕ, ◌+◌, ◌<◌, ◌≤◌, List, [], ◌∷◌, length, map}
 use Rattle.geo_exact.specs.declared.corner.Corner.{Corner}
 use Rattle.geo_exact.specs.declared.raw_ring.RawRing.{RawRing}
@@ -23,4 +24,5 @@ corner_count (ring ∷ rings) = length ring.corners + corner_count rings
 -- the rings' numbers rise from ring to ring, each above the one and none above the last
 abbrev pub NumbersRise : ℕ → ℕ → List NumberedRing → Type 0
 NumbersRise above last [] = Unit {0}
-NumbersRise above last (ring ∷ rings) = (above < ring.number) × (ring.number ≤ last) × NumbersRise ring.number last rings
+NumbersRise above last (ring ∷ rings) =
+    (above < ring.number) × (ring.number ≤ last) × NumbersRise ring.number last rings

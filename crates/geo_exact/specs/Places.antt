@@ -1,8 +1,9 @@
--- Corners of a ring by their numbers, from 0 (OGC 06-103r4, 6.1.7, LinearRing: a closed line; its last corner is followed by its first).
+-- Corners of a ring by their numbers, from 0 (OGC 06-103r4, 6.1.7, LinearRing: a closed line; its last corner is
+-- followed by its first).
 use Rattle.std.specs.Prelude.{ℕ, ◌+◌, ◌-◌, ◌==◌, if◌then◌else◌, pos, List, slice_index_or}
 use Rattle.geo_exact.specs.declared.corner.Corner.{Corner}
 
--- the place (0, 0)
+-- the point (0, 0)
 abbrev pub origin : Corner
 origin = record {
   x = pos 0;

@@ -1,5 +1,6 @@
--- Rings as lists of corners, and their edges (OGC 06-103r4, 6.1.7, LinearRing; Technical Description, July 1998, "Polygon").
--- Both write the first corner once more at the end, and here it is not repeated; a list need not be simple, nor have three corners.
+-- Rings as lists of corners, and their edges (OGC 06-103r4, 6.1.7, LinearRing; Technical Description, July 1998,
+-- "Polygon"). Both write the first corner once more at the end, and here it is not repeated; a list need not be simple,
+-- nor have three corners.
 use Rattle.std.specs.Prelude.{◌≢◌, ℕ, ℤ, pos, ◌+ℤ◌, List, [], ◌∷◌, ◌++◌, reverse, take, drop}
 use Rattle.std.specs.List.{AllByRecursion, position_or_len}
 use Rattle.geo_exact.specs.declared.corner.Corner.{Corner}
@@ -29,7 +30,7 @@ sum_over measure (edge ∷ rest) = measure edge +ℤ sum_over measure rest
 abbrev pub begun_at : {X : Type 0} → ℕ → List X → List X
 begun_at k items = drop k items ++ take k items
 
--- the same ring, begun at its least corner, by x and then by y: where that corner comes more than once, at the first of its places
+-- the same ring, begun at its least corner, by x and then by y: where it comes more than once, at its first place
 abbrev pub begun_at_least : List Corner → List Corner
 begun_at_least ring = begun_at (position_or_len (is_least ring) ring) ring
 

@@ -23,7 +23,8 @@ pub record IsHalfway (m p q : Point) : Type 0 where
   pub in_x : p.x +ℤ q.x ≡ pos 2 *ℤ m.x
   pub in_y : p.y +ℤ q.y ≡ pos 2 *ℤ m.y
 
--- q lies on the segment from p to r, its ends included: in homogeneous coordinates (x, y, d), k times q is m times p and n times r
+-- q lies on the segment from p to r, its ends included: in homogeneous coordinates (x, y,
+-- d), k times q is m times p and n times r
 pub record IsOnSegment (q p r : Point) : Type 0 where
   pub k : ℤ
   pub m : ℤ

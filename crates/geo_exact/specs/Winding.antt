@@ -12,8 +12,8 @@ use Rattle.geo_exact.specs.Turn.{turn_at, IsOnRing}
 abbrev pub is_not_above : Corner → Point → Bool
 is_not_above a p = int_le (a.y *ℤ p.d) p.y
 
--- how the edge from a to b crosses the ray from p to the right: 1 upward with p on its left, -1 downward with p on its right, else 0.
--- An edge crosses where one end is at p's height or below it and the other end above.
+-- how the edge from a to b crosses the ray from p to the right: 1 upward with p on its left, -1 downward with p on its
+-- right, else 0. An edge crosses where one end is at p's height or below it and the other end above.
 abbrev pub crossing : Point → Corner → Corner → ℤ
 crossing p a b =
     if is_not_above a p

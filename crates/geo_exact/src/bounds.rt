@@ -13,7 +13,7 @@ use crate::limits::LIMIT;
 
 /// A box with sides along the axes, from its least coordinates to its greatest, in millimetres.
 ///
-/// Where a greatest coordinate is below its least one, the box holds no place.
+/// Where a greatest coordinate is below its least one, the box holds no point.
 #[derive(Clone, Copy, Debug, PartialEq, Eq)]
 pub struct Bounds {
     /// The least x and the least y.
@@ -159,7 +159,7 @@ impl Bounds {
         is_within(self.low.x, self.high.x, corner.x) && is_within(self.low.y, self.high.y, corner.y)
     }
 
-    /// Whether the boxes have no common inner place; boxes that only touch have none.
+    /// Whether the boxes have no common inner point; boxes that only touch have none.
     pub fn is_apart(self, other: Bounds) -> bool
         ensures { IsTrue result ↔ BoxesAreApart self other }
     {
@@ -167,7 +167,7 @@ impl Bounds {
             || ends_before(self.low.y, self.high.y, other.low.y, other.high.y)
     }
 
-    /// Whether the box has no inner place.
+    /// Whether the box has no inner point.
     pub fn is_empty(self) -> bool
         ensures { IsTrue result ↔ IsEmptyBox self }
     {

@@ -7,7 +7,8 @@ ghost use Rattle.geo_exact.specs.Limit.{IsWithin, limit};
 
 use crate::limits::LIMIT;
 
-/// The unit in which a file's coordinates are meant.
+/// The unit in which a file's coordinates are meant. The double 12.34 is 12,340 mm where they are metres; where they
+/// are millimetres or centimetres it is off the grid.
 #[derive(Clone, Copy, Debug, PartialEq, Eq)]
 pub enum Unit {
     /// Millimetres.
@@ -88,6 +89,7 @@ fn near_size(numerator: u64, shift: u64) -> Result<u64, CoordFault>
     ensures value { result ≡ size_of numerator (2 ^ shift) }
     ensures bound { IfOk result (λ size. size ≤ limit) }
 {
+    // Below 2 ^ 63 / 2 ^ 74 = 1/2048: the nearest whole number is 0, and near enough.
     if shift >= 74 {
         return Ok(0);
     }
@@ -128,9 +130,11 @@ fn signed_coordinate(bits: u64, unit: Unit) -> Result<i64, CoordFault>
     ensures { result ≡ coordinate bits unit }
 {
     let exponent = exponent(bits);
+    // The exponent of infinities and of what is not a number.
     if exponent == 2047 {
         return Err(CoordFault::NotNumber);
     }
+    // From 2 ^ 52 on, which is beyond the limit in each unit; and below it the shift is positive.
     if exponent >= 1075 {
         return Err(CoordFault::TooFar);
     }

@@ -1,11 +1,11 @@
-//! A corner: a place in whole millimetres.
+//! A corner: a point in whole millimetres.
 
 ghost use Rattle.std.specs.Prelude.{◌≡◌, ◌↔◌, IsSome, IfSome};
 ghost use Rattle.geo_exact.specs.Limit.{IsWithin, limit};
 
 use crate::limits::LIMIT;
 
-/// A corner of a ring: a place in whole millimetres, each coordinate at most [`LIMIT`] away from 0.
+/// A corner of a ring: a point in whole millimetres, each coordinate at most [`LIMIT`] away from 0.
 ///
 /// Corners are ordered by `x`, then `y`.
 #[derive(Clone, Copy, Debug, PartialEq, Eq, PartialOrd, Ord, Hash)]
@@ -19,7 +19,7 @@ pub struct Corner {
 }
 
 impl Corner {
-    /// The corner at a place, or `None` where a coordinate is beyond the limit.
+    /// The corner at a point, or `None` where a coordinate is beyond the limit.
     ///
     /// ```
     /// let corner = Corner::new(60, 100); // Some; Corner::new(100_000_000_001, 0) is None

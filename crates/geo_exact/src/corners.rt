@@ -81,7 +81,7 @@ impl<A: Allocator> Corners<A> {
     ///
     /// # Errors
     ///
-    /// [`AllocError`] where a growth is refused; the list is unchanged then.
+    /// [`AllocError`] where an allocation fails; the list is unchanged then.
     pub fn push(&mut self, corner: Corner) -> Result<(), AllocError>
         ensures ok { OnOk result (self.new ≡ self.old ++ corner ∷ []) }
         ensures err { OnErr result (self.new ≡ self.old) }

@@ -18,7 +18,8 @@ ghost use Rattle.geo_exact.specs.declared.limits.TheConstants.{LIMIT, LIST_CORNE
 /// A ring has no first corner: begun at another corner it has the same edges, begun there too, and so the same winding
 /// number round every point, the same signed area and the same boundary.
 pub fn a_ring_has_no_first_corner()
-    ensures edges { (k : ℕ) (ring : List Corner) → k ≤ length ring → edges_of (begun_at k ring) ≡ begun_at k (edges_of ring) }
+    ensures edges { (k : ℕ) (ring : List Corner) → k ≤ length ring
+        → edges_of (begun_at k ring) ≡ begun_at k (edges_of ring) }
     ensures winding_number { (k : ℕ) (p : Point) (ring : List Corner) → k ≤ length ring
         → winding p (begun_at k ring) ≡ winding p ring }
     ensures signed_area { (k : ℕ) (ring : List Corner) → k ≤ length ring → area2 (begun_at k ring) ≡ area2 ring }
@@ -39,7 +40,7 @@ pub fn a_ring_turned_round_has_the_opposite_orientation()
     ensures signed_area { (ring : List Corner) → area2 (turned_round ring) ≡ neg_ℤ (area2 ring) }
 {}
 
-/// What a corner turns is what its place turns, as a rational point.
+/// What a corner turns is what it turns as a rational point.
 #[tactic(auto, using(crate::proofs::corners_and_turns::TurnLaws::turn_at_corner))]
 pub fn a_corner_turns_as_its_place()
     ensures { (a b c : Corner) → turn_at a b (corner_point c) ≡ turn a b c }
@@ -97,7 +98,7 @@ pub fn a_ring_does_not_go_round_what_its_least_corner_sees_outside()
         → winding (corner_point c) (v ∷ n ∷ (between ++ p ∷ [])) ≡ pos 0 }
 {}
 
-/// A place beyond a box that holds all corners of a ring is on no edge of the ring, and the ring does not go round it.
+/// A point beyond a box that holds all corners of a ring is on no edge of the ring, and the ring does not go round it.
 pub fn a_place_beyond_a_box_is_off_the_rings_in_it()
     ensures { (p : Point) (bounds : Bounds) (ring : List Corner) → All (HoldsCorner bounds) ring → IsBeyondBox p bounds
         → (¬ IsOnRing p ring) × (winding p ring ≡ pos 0) }

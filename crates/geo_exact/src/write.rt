@@ -26,6 +26,7 @@ fn whole_fraction(size: u64, place: u64) -> u64
     ensures value { result ≡ size * 2 ^ (52 - place) - 2 ^ 52 }
     ensures bound { result < 2 ^ 52 }
 {
+    // Without the highest 1, which a double does not store: 2 ^ 52.
     (size << (52 - place)) - 0x0010_0000_0000_0000
 }
 
@@ -49,6 +50,7 @@ fn coordinate_bits(k: i64) -> u64
 {
     let bits = whole_bits(k.unsigned_abs());
     if k < 0 {
+        // The sign bit.
         bits + 0x8000_0000_0000_0000
     } else {
         bits

@@ -86,7 +86,8 @@ lesser_rank stays rank_of jobs tried job had None rank least each none is (inl e
   is_least = over_threads stays (λ job had. had ≡ false → least ≤ rank_of job) jobs tried job had each
       (below_none rank_of jobs (threads_of tried) least front) (λ _. omega (arith, bound, is));
 }
-lesser_rank stays rank_of jobs tried job had None rank least each none is (inr e) bound other front = absurd (subst (λ (o : Option ℕ). MatchOption o ⊤ (λ _. ⊥)) e tt)
+lesser_rank stays rank_of jobs tried job had None rank least each none is (inr e) bound other front =
+    absurd (subst (λ (o : Option ℕ). MatchOption o ⊤ (λ _. ⊥)) e tt)
 lesser_rank stays rank_of jobs tried job had (Some told) rank least each none is (inl e) bound other front = record {
   has_rank = refused_last stays rank_of jobs tried job had least each none (sym (e ∙ is));
   is_least = over_threads stays (λ job had. had ≡ false → least ≤ rank_of job) jobs tried job had each

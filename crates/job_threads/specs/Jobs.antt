@@ -10,7 +10,8 @@ HadThreads jobs threads = AllZip (λ job had. had ≡ true) jobs threads
 abbrev pub HasRefused : {J : Type 0} → (J → ℕ) → List J → List Bool → ℕ → Type 0
 HasRefused rank_of [] threads rank = ⊥
 HasRefused rank_of (job ∷ jobs) [] rank = ⊥
-HasRefused rank_of (job ∷ jobs) (had ∷ threads) rank = ((had ≡ false) × (rank_of job ≡ rank)) ⊎ HasRefused rank_of jobs threads rank
+HasRefused rank_of (job ∷ jobs) (had ∷ threads) rank =
+    ((had ≡ false) × (rank_of job ≡ rank)) ⊎ HasRefused rank_of jobs threads rank
 
 -- of the jobs that had none one has this rank, and none a lesser
 pub record IsLeastRank {J : Type 0} (rank_of : J → ℕ) (jobs : List J) (threads : List Bool) (rank : ℕ) : Type 0 where
@@ -19,4 +20,5 @@ pub record IsLeastRank {J : Type 0} (rank_of : J → ℕ) (jobs : List J) (threa
 
 -- the least rank of the jobs that had none, where there is one
 abbrev pub IsLeastRefused : {J : Type 0} → (J → ℕ) → List J → List Bool → Option ℕ → Type 0
-IsLeastRefused rank_of jobs threads refused = MatchOption refused (HadThreads jobs threads) (IsLeastRank rank_of jobs threads)
+IsLeastRefused rank_of jobs threads refused =
+    MatchOption refused (HadThreads jobs threads) (IsLeastRank rank_of jobs threads)

@@ -1,7 +1,8 @@
 //! Jobs that are done at the same time, each in a thread of its own, and handed back.
 #![tactic(auto)]
 
-ghost use Rattle.std.specs.Prelude.{◌≡◌, ◌⊎◌, ℕ, ◌+◌, ◌≤◌, [], Some, length, vec_len, vec_capacity, IfOk, IfErr, IfSome};
+ghost use Rattle.std.specs.Prelude.{◌≡◌, ◌⊎◌, ℕ, ◌+◌, ◌≤◌, [], Some, length, vec_len, vec_capacity};
+ghost use Rattle.std.specs.Prelude.{IfOk, IfErr, IfSome};
 ghost use Rattle.std.specs.List.{AllZip};
 ghost use Rattle.job_threads.specs.Jobs.{IsLeastRefused};
 ghost use Rattle.job_threads.specs.own.Attempts.{WasTried, IsTriedBehind, threads_of};

@@ -1,4 +1,5 @@
--- The journal of a register as a text (this product's own). Digests are SHA-256 (FIPS 180-4), in lower-case hexadecimal digits.
+-- The journal of a register as a text (this product's own). Digests are SHA-256 (FIPS
+-- 180-4), in lower-case hexadecimal digits.
 use Rattle.std.specs.Prelude.{◌≡◌, ◌⊎◌, ⊤, ℕ, ◌+◌, ◌==◌, if◌then◌else◌, List, [], ◌∷◌, ◌++◌, length, codes, decimal}
 use mathlib.Core.List.{IsPrefix}
 use Rattle.sha2.specs.Sha256.{sha256}
@@ -64,7 +65,8 @@ abbrev pub IsTorn : ℕ → List ℕ → Type 0
 IsTorn number torn = IsPrefix torn (record_start number) ⊎ IsPrefix (record_start number) torn
 
 -- the text is the header of this layer, the lines of these records, whose last digest this is, and what is behind them
-pub record IsReadSoFar {A : Type 0} (layer text : List ℕ) (records : List (Record A)) (seal behind : List ℕ) : Type 0 where
+pub record IsReadSoFar {A : Type 0} (layer text : List ℕ) (records : List (Record A))
+    (seal behind : List ℕ) : Type 0 where
   pub is_text : text ≡ header_line layer ++ records_text layer records ++ behind
   pub is_seal : seal ≡ last_seal layer records
   pub are_numbered : AreNumbered 1 records

@@ -10,7 +10,7 @@ use std::alloc::{AllocError, Allocator};
 ///
 /// # Errors
 ///
-/// [`AllocError`] where an allocation is refused; a beginning of the line may stand at the end of the text then.
+/// [`AllocError`] where an allocation fails; a beginning of the line may stand at the end of the text then.
 pub fn push_header<A: Allocator>(text: &mut Vec<u8, A>, layer: &Seal) -> Result<(), AllocError>
     ensures { OnOk result (text.new.items ≡ text.old.items ++ header_line layer.now.digits) }
 {

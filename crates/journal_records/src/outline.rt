@@ -8,12 +8,12 @@ use geo_exact::Corner;
 use std::alloc::{AllocError, Allocator};
 use text_pieces::{push_corner, push_number};
 
-/// Adds the line of an outline of a layer: a number, and the corners of its ring, `NUMBER X Y X Y ..`. The city's number
-/// is 0; a parcel's is its id.
+/// Adds the line of an outline of a layer: a number, and the corners of its ring, `NUMBER X Y X Y ..`. The city's
+/// number is 0; a parcel's is its id.
 ///
 /// # Errors
 ///
-/// [`AllocError`] where an allocation is refused; a beginning of the line may stand at the end of the text then.
+/// [`AllocError`] where an allocation fails; a beginning of the line may stand at the end of the text then.
 pub fn push_outline<A: Allocator>(
     text: &mut Vec<u8, A>,
     number: u64,

@@ -20,7 +20,7 @@ pub enum JournalFault {
     OtherLayer,
     /// The line of this number, from 1, or the one behind it, is not as it was written.
     Changed(u64),
-    /// An allocation was refused.
+    /// An allocation failed.
     NoMemory,
 }
 
@@ -73,6 +73,7 @@ pub fn read_journal<'t, A: Allocator + Copy>(
     let mut rest = behind_header(alloc, layer, text)?;
     let mut records = Vec::new(alloc);
     let mut seal = *layer;
+    // No text has so many records: the loop ends with the text.
     for number in 1..u64::MAX {
         let read = match read_record(alloc, &seal, number, rest)? {
             Some(read) => read,
@@ -135,6 +136,7 @@ fn read_record<'t, A: Allocator + Copy>(
         IsRecord before.now.digits number text.now read.record read.seal.digits read.rest.now)) }
     ensures torn { IfOk result (λ found. IfNone found (IsTorn number text.now)) }
 {
+    // The header is line 1, so record n has lines 2 n and 2 n + 1.
     let changed = JournalFault::Changed(number.saturating_mul(2));
     let Some((comment, line)) = before_line_feed(text) else {
         return if begins_record(alloc, number, text)? {

@@ -10,7 +10,8 @@ use ring_edits::Edit;
 use std::alloc::{AllocError, Allocator};
 use text_pieces::push_number;
 
-/// What a journal says of an edit beside the edit.
+/// What a journal says of an edit beside the edit: in `# 3 1 2026-11-28T11:34:48Z
+/// anna, deed 17 DIGEST` all but the digest.
 #[derive(Clone, Copy, Debug, PartialEq, Eq)]
 pub struct Stamp<'t> {
     /// The entry's number, from 1.
@@ -44,7 +45,7 @@ pub struct Record<'t, A: Allocator> {
 ///
 /// # Errors
 ///
-/// [`AllocError`] where an allocation is refused; a beginning of the lines may stand at the end of the text then.
+/// [`AllocError`] where an allocation fails; a beginning of the lines may stand at the end of the text then.
 pub fn push_record<A: Allocator + Copy, B: Allocator>(
     alloc: A,
     text: &mut Vec<u8, A>,

@@ -5,7 +5,7 @@ ghost use Rattle.journal_records.specs.Words.{HasNoColon, IsPlain, SaysWho};
 
 use crate::parts::behind;
 
-/// The most bytes of a client's word.
+/// The most bytes of a client's word: room for a name and a file's number, and the journal's line stays one to read.
 pub const WORD_BYTES: usize = 200;
 
 /// What a line says of who asks and why, and what it asks for: `by WHO: ASKED`, cut at the last colon. `None` where the

@@ -26,9 +26,10 @@ pub record AreMade {A : Type 0} (records : List (Record A)) (before after : Book
   pub opening : after.opening ≡ before.opening
   pub city : after.city ≡ before.city
 
--- the text is a journal of this layer, which has so many records and ends with this digest and so many torn bytes, and its edits lead from
--- one book to another
-pub record IsReplayed {A : Type 0} (layer text : List ℕ) (before after : Book A) (count : ℕ) (seal : List ℕ) (torn : ℕ) : Type 0 where
+-- the text is a journal of this layer, which has so many records and ends with this digest and so many torn bytes, and
+-- its edits lead from one book to another
+pub record IsReplayed {A : Type 0} (layer text : List ℕ) (before after : Book A) (count : ℕ) (seal : List ℕ)
+    (torn : ℕ) : Type 0 where
   pub records : List (Record A)
   pub rest : List ℕ
   pub is_journal : IsJournal layer text records seal rest
@@ -36,7 +37,8 @@ pub record IsReplayed {A : Type 0} (layer text : List ℕ) (before after : Book 
   pub is_torn : torn ≡ length rest
   pub are_made : AreMade records before after
 
--- of records, those before the one of this number are made, and lead to a book; its edit is refused then, for this reason
+-- of records, those before the one of this number are made, and lead to a book; its
+-- edit is refused then, for this reason
 pub record IsStoppedAt {A : Type 0} (records : List (Record A)) (before after : Book A) (number : ℕ) (refusal : Refusal)
     : Type 0 where
   pub made : List (Record A)

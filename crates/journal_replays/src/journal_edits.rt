@@ -43,7 +43,8 @@ pub fn replay<'h, H: Allocator>(
     text: &[u8],
 ) -> Result<Replayed, ReplayFault>
     ensures ok { IfOk result (λ replayed.
-        IsReplayed layer.now.digits text.now fabric.old fabric.new replayed.records replayed.seal.digits replayed.torn) }
+        IsReplayed layer.now.digits text.now fabric.old fabric.new replayed.records
+        replayed.seal.digits replayed.torn) }
     ensures refused { (number : ℕ) (refusal : RefusalValue) → IsErrOf result (ReplayFault.Refused number refusal)
         → IsRefusedAt layer.now.digits text.now fabric.old fabric.new number refusal }
 {

@@ -9,12 +9,12 @@ use fabric_core::{Fabric, Shapes};
 use journal_records::{Seal, push_outline};
 use std::alloc::{AllocError, Allocator};
 
-/// The digest of a layer, as the fabric that was opened over it has it: of a line for the city, and one for each parcel,
-/// by ascending id.
+/// The digest of a layer, as the fabric that was opened over it has it: of a line for the city, and one for each
+/// parcel, by ascending id.
 ///
 /// # Errors
 ///
-/// [`AllocError`] where an allocation is refused.
+/// [`AllocError`] where an allocation fails.
 pub fn seal_of_layer<'h, H: Allocator>(
     heap: &'h H,
     fabric: &Fabric<'h, H>,

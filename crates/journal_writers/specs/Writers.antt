@@ -6,8 +6,8 @@ use Rattle.journal_records.specs.declared.record.Record.{Record}
 use Rattle.journal_records.specs.Journals.{IsReadSoFar, record_text, record_seal}
 use Rattle.journal_writers.specs.Files.{with_more}
 
--- what a journal shows: the digest of its layer, the bytes of its file, where that tells them, how many records it has, the digest of the
--- last, and whether it could not be written once
+-- what a journal shows: the digest of its layer, the bytes of its file, where that tells them, how many records it has,
+-- the digest of the last, and whether it could not be written once
 pub record WriterState : Type 0 where
   pub layer : List ℕ
   pub bytes : Option (List ℕ)
@@ -32,8 +32,8 @@ pub record IsDraftOf {A : Type 0} (draft : DraftState) (stamp : Stamp) (edit : E
 abbrev pub IsDraft : Type 0 → DraftState → Type 0
 IsDraft A draft = (it : Record A) × IsDraftOf draft it.stamp it.edit
 
--- the bytes are the header of this layer and the lines of so many records, in order and numbered from 1, each behind the digest of the
--- one before, and the last with this digest
+-- the bytes are the header of this layer and the lines of so many records, in order and numbered from 1, each behind
+-- the digest of the one before, and the last with this digest
 pub record IsKept (A : Type 0) (layer bytes : List ℕ) (records : ℕ) (seal : List ℕ) : Type 0 where
   pub written : List (Record A)
   pub are_lines : IsReadSoFar layer bytes written seal []
@@ -42,7 +42,8 @@ pub record IsKept (A : Type 0) (layer bytes : List ℕ) (records : ℕ) (seal : 
 -- so they are, where the file tells its bytes, unless a write failed
 abbrev pub IsKeptUnlessBroken : Type 0 → WriterState → Type 0
 IsKeptUnlessBroken A journal =
-    (journal.is_broken ≡ true) ⊎ IfSome journal.bytes (λ bytes. IsKept A journal.layer bytes journal.records journal.seal)
+    (journal.is_broken ≡ true)
+    ⊎ IfSome journal.bytes (λ bytes. IsKept A journal.layer bytes journal.records journal.seal)
 
 -- the bytes are those of such a journal, and so many torn bytes behind so many whole ones
 pub record IsFound (A : Type 0) (layer bytes : List ℕ) (records : ℕ) (seal : List ℕ) (whole torn : ℕ) : Type 0 where

@@ -8,8 +8,8 @@ use std::marker::{Model, PhantomData};
 
 /// The lines of a record that is to be written.
 ///
-/// Contracts see its number, from 1, the digest of the record before, its own digest, and its two lines, which are those
-/// of a stamp and an edit.
+/// Contracts see its number, from 1, the digest of the record before, its own digest, and its two lines, which are
+/// those of a stamp and an edit.
 #[derive(Drop)]
 pub struct Draft<A: Allocator, B: Allocator> {
     pub(crate) number: u64,

@@ -1,5 +1,5 @@
-//! A journal as it is written to its file: what a call adds is exactly a record, and a journal that could not be written
-//! once is never written again.
+//! A journal as it is written to its file: what a call adds is exactly a record, and a journal that could not be
+//! written once is never written again.
 #![tactic(auto)]
 
 mod draft;

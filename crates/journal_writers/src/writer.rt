@@ -1,6 +1,7 @@
 //! The writer of a journal.
 
-ghost use Rattle.std.specs.Prelude.{◌≡◌, ◌+◌, ◌^◌, ◌<◌, ◌==◌, [], false, true, if◌then◌else◌, IfOk, IfSome, OnOk, OnErr};
+ghost use Rattle.std.specs.Prelude.{◌≡◌, ◌+◌, ◌^◌, ◌<◌, ◌==◌, [], false, true, if◌then◌else◌, IfOk};
+ghost use Rattle.std.specs.Prelude.{IfSome, OnOk, OnErr};
 ghost use Rattle.journal_records.specs.Journals.{header_line, record_text, record_seal};
 ghost use Rattle.journal_writers.specs.Files.{with_more, with_first};
 ghost use Rattle.journal_writers.specs.Writers.{IsDraftOf, IsKeptUnlessBroken, IsFound};
@@ -12,11 +13,11 @@ use ring_edits::Edit;
 use std::alloc::{AllocError, Allocator};
 use std::marker::{Model, PhantomData};
 
-/// A journal that is written: unless a write failed, its file has the header of its layer and the lines of its records, in
-/// order, and nothing else. Once a write failed, none is made any more.
+/// A journal that is written: unless a write failed, its file has the header of its layer and the lines of its records,
+/// in order, and nothing else. Once a write failed, none is made any more.
 ///
-/// Contracts see the digest of its layer, the bytes of its file, where that tells them, how many records it has, the digest
-/// of the last (of the layer, where there is none), and whether a write failed.
+/// Contracts see the digest of its layer, the bytes of its file, where that tells them, how many records it has, the
+/// digest of the last (of the layer, where there is none), and whether a write failed.
 #[derive(Drop)]
 pub struct JournalWriter<K: JournalFile, B: Allocator> {
     file: K,
@@ -50,8 +51,8 @@ impl<K: JournalFile, B: Allocator> Model for JournalWriter<K, B> {
 }
 
 impl<K: JournalFile, B: Allocator> JournalWriter<K, B> {
-    /// Begins the journal of a layer in an empty file, whose header the disk has then. A file that could not be written is
-    /// empty again, if it could be cut.
+    /// Begins the journal of a layer in an empty file, whose header the disk has then. A file that could not be written
+    /// is empty again, if it could be cut.
     ///
     /// # Errors
     ///
@@ -90,8 +91,8 @@ impl<K: JournalFile, B: Allocator> JournalWriter<K, B> {
         })
     }
 
-    /// Goes on with a journal of this layer, of so many records, the last with this digest, and of so many bytes: what is
-    /// torn behind them is cut off, and the disk has the rest then.
+    /// Goes on with a journal of this layer, of so many records, the last with this digest, and of so many bytes: what
+    /// is torn behind them is cut off, and the disk has the rest then.
     ///
     /// # Errors
     ///
@@ -128,8 +129,8 @@ impl<K: JournalFile, B: Allocator> JournalWriter<K, B> {
         })
     }
 
-    /// Unless a write failed, the file has, where it tells its bytes, the header of the layer and the lines of its records:
-    /// in order, numbered from 1, each behind the digest of the one before.
+    /// Only teaches the prover: unless a write failed, the file has, where it tells its bytes, the header of the layer
+    /// and the lines of its records: in order, numbered from 1, each behind the digest of the one before.
     pub fn use_invariant(&self)
         ensures kept { IsKeptUnlessBroken B self.now }
     {
@@ -168,7 +169,7 @@ impl<K: JournalFile, B: Allocator> JournalWriter<K, B> {
     ///
     /// # Errors
     ///
-    /// [`AllocError`] where an allocation is refused.
+    /// [`AllocError`] where an allocation fails.
     pub fn draft<A: Allocator + Copy>(
         &self,
         alloc: A,

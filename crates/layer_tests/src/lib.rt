@@ -1,5 +1,5 @@
-//! Tests of layers from their files: the areas that are printed, index files, which layers tile their city, the texts of
-//! faults and their pieces, which files are read and how files are replaced.
+//! Tests of layers from their files: the areas that are printed, index files, which layers tile their city, the texts
+//! of faults and their pieces, which files are read and how files are replaced.
 #![tactic(auto)]
 
 #[cfg(test)]

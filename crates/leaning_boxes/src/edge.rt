@@ -12,7 +12,7 @@ ghost use Rattle.leaning_boxes.specs.Leaning.{IsHeld};
 use crate::leaning::LeaningBox;
 use geo_exact::{Corner, edge_boxes_meet, turn};
 
-/// A row of places: how far along an axis, and how far from a line, the first and the last are.
+/// A row of points: how far along an axis, and how far from a line, the first and the last are.
 #[derive(Clone, Copy)]
 struct Row {
     from: i64,
@@ -45,7 +45,7 @@ fn way_between(u: i64, v: i64) -> i128
     i128::from(u - v)
 }
 
-/// The product of the way and the rise between two places.
+/// The product of the way and the rise between two points.
 fn rise_product(way: i128, rise: i128) -> i128
     requires first { IsWithin (2 * limit) way }
     requires second { IsWithin (16 * (limit * limit)) rise }
@@ -68,7 +68,7 @@ fn lie_below(u: i128, v: i128, w: i128, z: i128) -> bool
     u.max(v) < w.min(z)
 }
 
-/// Whether a row of places in a line passes by all places of another range: from one coordinate to another, and
+/// Whether a row of points in a line passes by all points of another range: from one coordinate to another, and
 /// as far from the line.
 fn passes_by(row: Row, range: Row) -> bool
     ensures { IsTrue result → (z w : ℤ) → range.from ≤ℤ z → z ≤ℤ range.to → range.rise_from ≤ℤ w → w ≤ℤ range.rise_to

@@ -14,7 +14,7 @@ pub struct LeaningBox {
     pub bounds: Bounds,
     /// A corner of the line.
     pub from: Corner,
-    /// Another; where both are at one place, each turn is 0, and the box along the axes is all.
+    /// Another; where both are at one point, each turn is 0, and the box along the axes is all.
     pub to: Corner,
     /// The least turn from the line.
     pub low: i128,

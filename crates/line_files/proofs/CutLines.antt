@@ -54,7 +54,8 @@ pub line_cut : {A : Type 0} (edit : Edit A) (rest : List ℕ) → IsWritable edi
 line_cut edit rest h =
     let from = text_from edit h in
     let stays : without_return (edit_text edit) ≡ edit_text edit =
-    no_return (edit_text edit) (recursion_from_All (λ b. b ≢ 13) (edit_text edit) (lack_lesser 32 13 (omega arith) (edit_text edit) from)) in
+    no_return (edit_text edit) (recursion_from_All (λ b. b ≢ 13) (edit_text edit)
+    (lack_lesser 32 13 (omega arith) (edit_text edit) from)) in
     first_of_more (edit_line edit ++ rest) (edit_text edit) rest
     record { whole = append_assoc (edit_text edit) (codes "\n") rest; lacks = lack_lesser 32 10 (omega arith) (edit_text edit) from }
     ∙ ap (λ line. line ∷ lines_of rest) stays

@@ -9,7 +9,8 @@ use Rattle.line_files.specs.Grids.{grid_of, behind_grid}
 use Rattle.line_files.specs.TextNumbers.{IsNumber, AreCornerWords}
 use Rattle.line_files.specs.declared.grids.Grid.{Grid}
 
--- the words of a line, which is cut at each space (32); where two stand side by side, or one at an end of the line, there is an empty word
+-- the words of a line, which is cut at each space (32); where two stand side by side, or one at an end of the line,
+-- there is an empty word
 abbrev pub words_of : List ℕ → List (List ℕ)
 words_of line = slice_split (λ b. b == 32) line
 
@@ -78,13 +79,13 @@ pub record SaysEdit {A : Type 0} (grid : Grid) (number : ℕ) (line : List ℕ) 
   pub is_number : entry.0 ≡ number
   pub is_edit : SayEdit grid (words_of line) entry.1
 
--- each line but a first `grid cm` is skipped or says an edit, on the grid that this line names; and the list has, in order, the
--- number, from 1, and the edit of each that is not skipped
+-- each line but a first `grid cm` is skipped or says an edit, on the grid that this line names; and the list has, in
+-- order, the number, from 1, and the edit of each that is not skipped
 abbrev pub IsClerkFile : {A : Type 0} → List ℕ → List (ℕ × Edit A) → Type 0
 IsClerkFile bytes list = AreSaid (SaysEdit (grid_of (lines_of bytes))) 1 (behind_grid (lines_of bytes)) list
 
--- the number, from 1, of the first line but a first `grid cm` that is not skipped and says no edit (of edits in whatever memory, here
--- none)
+-- the number, from 1, of the first line but a first `grid cm` that is not skipped and says no edit (of edits in
+-- whatever memory, here none)
 abbrev pub IsFirstBadLine : List ℕ → ℕ → Type 0
 IsFirstBadLine bytes n = IsFirstBad (SaysEdit {A = ⊤} (grid_of (lines_of bytes))) 1 (behind_grid (lines_of bytes)) n
 

@@ -1,5 +1,5 @@
--- The grid of the coordinates in a text (this product's own): whole millimetres, or whole centimetres where the text's first
--- line is `grid cm`.
+-- The grid of the coordinates in a text (this product's own): whole millimetres, or whole centimetres where the text's
+-- first line is `grid cm`.
 use Rattle.std.specs.Prelude.{ℕ, Bool, false, List, [], ◌∷◌, codes, if◌then◌else◌}
 use Rattle.std.specs.Str.{bytes_eq}
 use Rattle.line_files.specs.declared.grids.Grid.{Grid}

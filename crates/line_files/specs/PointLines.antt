@@ -23,4 +23,5 @@ ArePoints text points = AreSaid (IsNumberedPointLine (grid_of (lines_of text))) 
 
 -- the text's first line, counted from 1, that is neither skipped nor a point, nor names its grid
 abbrev pub IsFirstBadPoint : List ℕ → ℕ → Type 0
-IsFirstBadPoint text number = IsFirstBad (IsNumberedPointLine (grid_of (lines_of text))) 1 (behind_grid (lines_of text)) number
+IsFirstBadPoint text number =
+    IsFirstBad (IsNumberedPointLine (grid_of (lines_of text))) 1 (behind_grid (lines_of text)) number

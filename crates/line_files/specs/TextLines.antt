@@ -12,11 +12,13 @@ abbrev pub with_first : ℕ → List (List ℕ) → List (List ℕ)
 with_first byte [] = (byte ∷ []) ∷ []
 with_first byte (line ∷ lines) = (byte ∷ line) ∷ lines
 
--- the lines of a text: a line feed (10) ends each, which the last may lack, and one carriage return (13) just before it is of the end
+-- the lines of a text: a line feed (10) ends each, which the last may lack, and one carriage
+-- return (13) just before it is of the end
 abbrev pub lines_of : List ℕ → List (List ℕ)
 lines_of [] = []
 lines_of (b ∷ bs) =
-    if b == 10 then [] ∷ lines_of bs else (if (b == 13) && begins_with 10 bs then lines_of bs else with_first b (lines_of bs))
+    if b == 10 then [] ∷ lines_of bs
+    else (if (b == 13) && begins_with 10 bs then lines_of bs else with_first b (lines_of bs))
 
 -- a line that is skipped: it is empty, or begins with `#` (35)
 abbrev pub IsSkipped : List ℕ → Type 0

@@ -31,5 +31,6 @@ pub record IsCornerText (grid : Grid) (x y : List ℕ) (corner : Corner) : Type 
 -- `X Y X Y ..`: the words are the coordinates of these corners, two each
 abbrev pub AreCornerWords : Grid → List (List ℕ) → List Corner → Type 0
 AreCornerWords grid words [] = words ≡ []
-AreCornerWords grid words (corner ∷ corners) = (x : List ℕ) × (y : List ℕ) × (rest : List (List ℕ)) × (words ≡ x ∷ y ∷ rest)
+AreCornerWords grid words (corner ∷ corners) =
+    (x : List ℕ) × (y : List ℕ) × (rest : List (List ℕ)) × (words ≡ x ∷ y ∷ rest)
     × IsCornerText grid x y corner × AreCornerWords grid rest corners

@@ -16,7 +16,7 @@ use std::alloc::{AllocError, AllocFailed, Allocator};
 pub enum ClerkFault {
     /// L1: the first line, counted from 1, that is neither skipped nor an edit.
     Line(u64),
-    /// A growth was refused.
+    /// An allocation failed.
     NoMemory,
 }
 

@@ -20,7 +20,7 @@ use text_pieces::{Piece, push_pieces};
 ///
 /// # Errors
 ///
-/// [`AllocError`] where an allocation is refused; a beginning of the line may stand at the end of the text then.
+/// [`AllocError`] where an allocation fails; a beginning of the line may stand at the end of the text then.
 ///
 /// ```
 /// // "merge 3 4\n" behind what the text had

@@ -174,7 +174,8 @@ fn take_number(words: &mut Words<'_>) -> Option<u64>
 /// The corner whose coordinates the next two words are; `None` where they are none.
 fn take_corner(grid: Grid, words: &mut Words<'_>) -> Option<Corner>
     ensures found { IfSome result (λ corner. TakesCorner grid words.old corner words.new) }
-    ensures none { IfNone result ((corner : CornerValue) → (left : List (List ℕ)) → ¬ TakesCorner grid words.old corner left) }
+    ensures none { IfNone result ((corner : CornerValue) → (left : List (List ℕ))
+        → ¬ TakesCorner grid words.old corner left) }
 {
     let x = words.next()?;
     let y = words.next()?;

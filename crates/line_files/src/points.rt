@@ -17,7 +17,7 @@ use std::alloc::{AllocFailed, Allocator};
 pub enum PointsFault {
     /// L1: the first line, counted from 1, that is neither skipped nor a point.
     BadLine(usize),
-    /// A growth was refused.
+    /// An allocation failed.
     NoMemory,
 }
 

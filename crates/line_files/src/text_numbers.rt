@@ -12,7 +12,7 @@ ghost use Rattle.line_files.specs.declared.text_numbers.TheConstants.{MOST_DIGIT
 use crate::grids::Grid;
 use geo_exact::{Corner, LIMIT};
 
-/// The most digits of a number in a text.
+/// The most digits of a number in a text: each number of so many fits 64 bits, and not each of one more.
 pub const MOST_DIGITS: usize = 19;
 
 /// A number in a text has at most 19 digits, and not one fewer.
@@ -53,7 +53,8 @@ fn read_coordinate(grid: Grid, text: &[u8]) -> Option<i64>
 
 /// The distance from 0 that digits are, in millimetres; `None` where they are none, or beyond the limit.
 fn read_distance(grid: Grid, digits: &[u8]) -> Option<i64>
-    ensures found { IfSome result (λ z. (n : ℕ) × (z ≡ pos (step grid * n)) × IsNumber digits.now n × IsWithin limit z) }
+    ensures found { IfSome result (λ z. (n : ℕ) × (z ≡ pos (step grid * n)) × IsNumber digits.now n
+        × IsWithin limit z) }
     ensures none { IfNone result ((n : ℕ) → IsWithin limit (pos (step grid * n)) → ¬ IsNumber digits.now n) }
 {
     let number = read_number(digits)?;

@@ -1,14 +1,13 @@
 //! Windows that are asked how many entries they find, and which ring a parcel has.
 
-use crate::growths::{published, told, was_refused};
+use crate::growths::{published, told};
 use crate::halves::cut;
-use crate::opened::Refuses;
 use crate::plays::Told;
 use desk_lock::{Card, LocateFault, Naming, Office, Window};
 use std::alloc::Allocator;
 use std::sync::Wait;
 use std::test::Fail;
-use test_builders::{Place, corners};
+use test_builders::{Place, Refuses, corners, was_refused};
 use test_cities::WEST;
 
 /// The west half of the first parcel, which is parcel 3 once it is cut.

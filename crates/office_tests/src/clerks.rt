@@ -1,4 +1,4 @@
-//! Clerks who make their edits at the same time, each in a thread of his own.
+//! Clerks who make their edits at the same time, each in a thread of their own.
 
 use crate::answers::Cards;
 use desk_lock::{Card, Naming, Office};
@@ -44,7 +44,7 @@ fn edit_for<A: Allocator>(task: Task, clerk: u32, number: i64) -> Option<Edit<A>
     }
 }
 
-/// A clerk, and what became of his edits: the number of the last one that was accepted, and why one was refused.
+/// A clerk, and what became of their edits: the number of the last one that was accepted, and why one was refused.
 #[derive(Drop)]
 struct Clerk<'a, H: Allocator, J: Naming<H>, W: Wait + Drop> {
     rt: W,
@@ -147,7 +147,7 @@ fn outcomes_of<'a, H: Allocator, J: Naming<H>, W: Wait + Drop>(
     Ok(outcomes)
 }
 
-/// Lets each clerk do the task in a thread of his own: what became of the edits.
+/// Lets each clerk do the task in a thread of their own: what became of the edits.
 pub fn work_all<
     'a,
     H: Allocator + Send + Sync,

@@ -3,7 +3,6 @@
 use crate::answers::{answers, submitted, tells};
 use crate::changes::{INTO_HALVES, edit_of};
 use crate::halves::{cut, learn_corners};
-use crate::opened::Refuses;
 use crate::plays::Told;
 use desk_lock::{Card, LocateFault, Naming, Notice, Office, Receipt, Window};
 use fabric_core::{At, Refusal, Sheet};
@@ -11,14 +10,7 @@ use geo_exact::Corner;
 use std::alloc::{AllocError, Allocator};
 use std::sync::Wait;
 use std::test::Fail;
-use test_builders::corner;
-
-/// Ends the refusing of growths; whether one was refused.
-pub fn was_refused<H: Refuses>(heap: &H) -> bool {
-    let is_refused = heap.is_spent();
-    heap.refuse(0);
-    is_refused
-}
+use test_builders::{Refuses, corner, was_refused};
 
 /// What came of a call that was made to its end.
 pub fn told(is_refused: bool) -> Told {

@@ -6,9 +6,8 @@ ghost use Rattle.desk_lock.specs.Offices.{origin_of};
 use crate::answers::{Cards, Windows};
 use crate::asked::{ask_parcels, parcel_with_memory};
 use crate::clerks::{Task, work_all};
-use crate::growths::{cut_with_memory, locate_with_memory, sheet_with_memory, was_refused};
+use crate::growths::{cut_with_memory, locate_with_memory, sheet_with_memory};
 use crate::halves::{ask_late, learn_halves, learn_unasked};
-use crate::opened::Refuses;
 use crate::readers::read_meanwhile;
 use crate::straightens::learn_straight;
 use desk_lock::{Card, CloseFault, Name, Naming, Office, OpenFault, Window};
@@ -17,6 +16,7 @@ use std::marker::Brand;
 use std::sync::Wait;
 use std::test::Fail;
 use std::thread::Threads;
+use test_builders::{Refuses, was_refused};
 
 /// The number of no growth.
 pub const NONE: u64 = u64::MAX;

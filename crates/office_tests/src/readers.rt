@@ -47,7 +47,7 @@ struct Answer<'a, H: Allocator> {
     heap: &'a H,
 }
 
-/// Who works in a thread of his own: a clerk with a card, or a reader at a window.
+/// Who works in a thread of their own: a clerk with a card, or a reader at a window.
 #[derive(Drop)]
 struct Worker<'a, H: Allocator, J: Naming<H>, W: Wait + Drop> {
     rt: W,
@@ -196,7 +196,7 @@ fn workers_of<'a, H: Allocator, J: Naming<H>, R: Wait + Copy>(
     Ok(workers)
 }
 
-/// Puts the card of a worker back, where he has one.
+/// Puts the card of a worker back, where they have one.
 fn put_card<'a, H: Allocator, J: Naming<H>, W: Wait + Drop>(
     cards: &mut Cards<'a, H, J>,
     worker: Worker<'a, H, J, W>,
@@ -295,7 +295,7 @@ fn check_at<'a, H: Allocator, J: Naming<H>, R: Wait + Drop, W: Wait, V: Wait + D
     check_all(heap, workers, sheet.journal())
 }
 
-/// Lets clerks and readers work, each in a thread of his own.
+/// Lets clerks and readers work, each in a thread of their own.
 pub fn read_meanwhile<
     'a,
     H: Allocator + Send + Sync,

@@ -2,7 +2,7 @@
 
 use crate::changes::{Change, edit_of};
 use crate::city_of_many::large_city;
-use crate::opened::{Refuses, town};
+use crate::opened::town;
 use crate::plays::{NONE, Play, Told, at_office};
 use crate::readers::EDITS;
 use crate::replays::is_replayed;
@@ -14,7 +14,7 @@ use std::alloc::Allocator;
 use std::sync::Wait;
 use std::test::Fail;
 use std::thread::Threads;
-use test_builders::Place;
+use test_builders::{Place, Refuses};
 use test_cities::fabric;
 
 /// What a fabric has: so many entries and parcels, of which this is the last.

@@ -1,6 +1,5 @@
 //! Each growth refused in turn.
 
-use crate::opened::Refuses;
 use crate::plays::{NONE, Play, Told};
 use crate::rows::{HALVED, told_of, told_of_opening};
 use desk_lock::{Name, OpenFault};
@@ -8,6 +7,7 @@ use refusing_alloc::Refusing;
 use std::sync::Wait;
 use std::test::Fail;
 use std::thread::Threads;
+use test_builders::Refuses;
 
 /// No call here has so many growths.
 const MOST: u64 = 1000;
@@ -20,8 +20,8 @@ fn is_unnamed<H: Refuses>(heap: &H, number: u64) -> bool {
     is_unnamed
 }
 
-/// Opens an office with each growth refused in turn, until none is: how many were. Memory is wanting for each, a reader's
-/// own among them: K3 is told of none.
+/// Opens an office with each growth refused in turn, until none is: how many were. Memory is wanting for each, a
+/// reader's own among them: K3 is told of none.
 fn count_unopened<H: Refuses + Send + Sync, R: Threads + Wait + Copy + Send + Sync>(
     rt: R,
     heap: &H,

@@ -17,7 +17,8 @@ pub record Standing : Type 0 where
   pub places : List (ℕ × ℕ)
   pub ended : List ℕ
 
--- what several hands together know: how many they are, the places that they claimed, and the lists that they found at their end
+-- what several hands together know: how many they are, the places that they claimed, and
+-- the lists that they found at their end
 pub record Gathered : Type 0 where
   pub lists : Lists
   pub hands : ℕ
@@ -43,8 +44,8 @@ HasAllEnds hand = AreAllEnded (length hand.lists.lengths) hand.ended
 abbrev pub IsPlace : Lists → ℕ × ℕ → Type 0
 IsPlace lists place = (place.0 < length lists.lengths) × (place.1 < slice_index lists.lengths place.0)
 
--- The list to which a hand goes after so many: by rising number, beginning with its own and, past the last, at 0. And the first so many
--- of them.
+-- The list to which a hand goes after so many: by rising number, beginning with its own and, past the last, at 0. And
+-- the first so many of them.
 abbrev pub list_after : (number count : ℕ) → ℕ → ℕ
 list_after number count k = (number + k) % count
 
@@ -52,8 +53,8 @@ abbrev pub lists_from : (number count : ℕ) → ℕ → List ℕ
 lists_from number count zero = []
 lists_from number count (suc k) = lists_from number count k ++ list_after number count k ∷ []
 
--- A hand has claimed a place of the first list, in this order, that it has not found at its end. The lists before that one it has found
--- at their ends, some of them on the way, and no other.
+-- A hand has claimed a place of the first list, in this order, that it has not found at its end. The lists before that
+-- one it has found at their ends, some of them on the way, and no other.
 pub record ClaimsNext (old new : Standing) (place : ℕ × ℕ) : Type 0 where
   pub is_place : IsPlace old.lists place
   pub claims : new.places ≡ old.places ++ place ∷ []

@@ -20,7 +20,8 @@ all_places first (n ∷ lengths) = places_below first n ++ all_places (suc first
 abbrev pub claimed_places : ℕ → List ℕ → List ℕ → List (ℕ × ℕ)
 claimed_places first [] words = []
 claimed_places first (n ∷ lengths) [] = []
-claimed_places first (n ∷ lengths) (word ∷ words) = places_below first (min word n) ++ claimed_places (suc first) lengths words
+claimed_places first (n ∷ lengths) (word ∷ words) =
+    places_below first (min word n) ++ claimed_places (suc first) lengths words
 
 -- how often a list is noted
 abbrev pub times : ℕ → List ℕ → ℕ
@@ -46,8 +47,9 @@ pub record IsFit (lengths : List ℕ) (view : View) : Type 0 where
 
 -- The rule of the words, for lists of these lengths:
 --   each place that is below both its list's length and word stands in one view, once, and no other place in any;
---   a word is at most its list's length and the notes of the list together; where there is a note, the word is at least the length;
---   all views together have as many parts as there are lists, which are as many as the hands; and no addition wraps.
+--   a word is at most its list's length and the notes of the list together; where there is a note, the word is at least
+--   the length; all views together have as many parts as there are lists, which are as many as the hands; and no
+--   addition wraps.
 pub record IsClaimed (lengths words : List ℕ) (views : List View) : Type 0 where
   pub a_word_each : length words ≡ length lengths
   pub each_once : IsPermutation (places_of views) (claimed_places 0 lengths words)
@@ -69,20 +71,23 @@ abbrev pub with_fewer_parts : View → View
 with_fewer_parts v = record { lengths = v.lengths; parts = v.parts - 1; places = v.places; notes = v.notes }
 
 abbrev pub with_place : View → ℕ → ℕ → View
-with_place v list place = record { lengths = v.lengths; parts = v.parts; places = v.places ++ (list, place) ∷ []; notes = v.notes }
+with_place v list place =
+    record { lengths = v.lengths; parts = v.parts; places = v.places ++ (list, place) ∷ []; notes = v.notes }
 
 abbrev pub with_note : View → ℕ → View
 with_note v list = record { lengths = v.lengths; parts = v.parts; places = v.places; notes = v.notes ++ list ∷ [] }
 
 abbrev pub joined : View → View → View
-joined v w = record { lengths = v.lengths; parts = v.parts + w.parts; places = v.places ++ w.places; notes = v.notes ++ w.notes }
+joined v w =
+    record { lengths = v.lengths; parts = v.parts + w.parts; places = v.places ++ w.places; notes = v.notes ++ w.notes }
 
 -- The two kinds of step that there are, each an addition of one to a list's word by a hand: the word is found below
 -- the list's length, and the hand claims the place with that number; or it is found at the length or above, and the
 -- hand notes the end. A view has no more places than the lists together.
 abbrev pub Claims : View → ℕ → ℕ → View → Type 0
 Claims v list found w =
-    ((found < slice_index v.lengths list) × (w ≡ with_place v list found) × (length w.places ≤ sum_by (λ n. n) v.lengths))
+    ((found < slice_index v.lengths list) × (w ≡ with_place v list found)
+    × (length w.places ≤ sum_by (λ n. n) v.lengths))
     ⊎ ((slice_index v.lengths list ≤ found) × (w ≡ with_note v list))
 
 -- where each list was found at its end and the view has all parts, its places are all places, each once

@@ -71,7 +71,8 @@ impl Claimant {
     pub(crate) fn into_mark(self) -> Mark
         ensures name { result.table_id ≡ self.lists.name }
         ensures no_slot { result.me.1 ≡ [] }
-        ensures view { result.me.0 ≡ record { lengths = self.lists.lengths; parts = 1; places = self.places; notes = self.ended } }
+        ensures view { result.me.0
+            ≡ record { lengths = self.lists.lengths; parts = 1; places = self.places; notes = self.ended } }
     {
         let Claimant {
             mark,

@@ -1,10 +1,12 @@
 //! Claims: each place of the lists is claimed by one hand at most.
 
-ghost use Rattle.std.specs.Prelude.{◌≡◌, ℕ, ◌+◌, ◌^◌, ◌<◌, ◌≤◌, [], length, slice_index, sum_by, IfOk, IfSome, IfNone, IsPermutation};
+ghost use Rattle.std.specs.Prelude.{◌≡◌, ℕ, ◌+◌, ◌^◌, ◌<◌, ◌≤◌, [], length, slice_index, sum_by, IfOk};
+ghost use Rattle.std.specs.Prelude.{IfSome, IfNone, IsPermutation};
 ghost use Rattle.std.specs.List.{AllByRecursion};
 ghost use Rattle.overlay_claims.specs.own.Spread.{word_of};
 ghost use Rattle.overlay_claims.specs.Claimants.{fresh_hands};
-ghost use Rattle.overlay_claims.specs.Claims.{view_of, with_fewer_parts, with_place, with_note, joined, times, all_places};
+ghost use Rattle.overlay_claims.specs.Claims.{view_of, with_fewer_parts, with_place, with_note};
+ghost use Rattle.overlay_claims.specs.Claims.{joined, times, all_places};
 
 use crate::claimant::{Claimant, deal};
 use crate::plays::{Claim, Confirm, PartOff, Rule, Together};
@@ -16,8 +18,8 @@ use std::marker::Model;
 /// The token with which a hand claims places, and by which proofs follow what it knows. It has no bytes.
 pub(crate) type Mark = Seat<(), View>;
 
-/// How many words there are for each list, of which one is used: so no two that hands change lie in one line
-/// of a cache.
+/// How many words there are for each list, of which one is used: so no two that hands change lie in one line of a
+/// cache, nor in two lines, of 64 bytes each, that are fetched together.
 const APART: usize = 16;
 
 /// The number of a list's word, which has eight words that nobody uses before it, and seven behind.
@@ -53,7 +55,7 @@ impl<A: Allocator + Copy> Claims<A> {
     ///
     /// # Errors
     ///
-    /// [`AllocError`] where an allocation is refused.
+    /// [`AllocError`] where an allocation fails.
     pub fn open(alloc: A, lengths: Vec<u64, A>) -> Result<(Claims<A>, Vec<Claimant, A>), AllocError>
         requires some { 0 < length lengths.items }
         requires short { AllByRecursion (λ n. n + length lengths.items < 2 ^ 64) lengths.items }
@@ -96,7 +98,8 @@ impl<A: Allocator + Copy> Claims<A> {
         requires own { mark.old.table_id ≡ self.now.name }
         requires parts { 1 < mark.old.me.0.parts }
         requires nothing { mark.old.me.0.notes ≡ [] }
-        ensures kept { (mark.new.table_id ≡ mark.old.table_id) × (mark.new.me ≡ (with_fewer_parts mark.old.me.0, mark.old.me.1)) }
+        ensures kept { (mark.new.table_id ≡ mark.old.table_id)
+            × (mark.new.me ≡ (with_fewer_parts mark.old.me.0, mark.old.me.1)) }
         ensures given { (result.table_id ≡ mark.old.table_id) × (result.me ≡ (view_of mark.old.me.0.lengths 1, [])) }
     {
         self.table.shared.split_seat::<PartOff>(mark)
@@ -115,6 +118,7 @@ impl<A: Allocator + Copy> Claims<A> {
         ensures bounded { IfSome result (λ place. length mark.new.me.0.places ≤ sum_by (λ n. n) self.now.lengths) }
         ensures none { IfNone result (mark.new.me.0 ≡ with_note mark.old.me.0 list) }
     {
+        // At the end a word may go beyond the length. It never wraps: a hand that notes an end adds no more there.
         let found = self
             .table
             .shared
@@ -131,7 +135,8 @@ impl<A: Allocator + Copy> Claims<A> {
         requires own { mark.old.table_id ≡ self.now.name }
         requires others { (other.table_id ≡ self.now.name) × (other.me.1 ≡ []) }
         requires parts { 0 < mark.old.me.0.parts }
-        ensures { (mark.new.table_id ≡ mark.old.table_id) × (mark.new.me ≡ (joined mark.old.me.0 other.me.0, mark.old.me.1)) }
+        ensures { (mark.new.table_id ≡ mark.old.table_id)
+            × (mark.new.me ≡ (joined mark.old.me.0 other.me.0, mark.old.me.1)) }
     {
         self.table.shared.join_seat::<Together>(mark, other);
     }

@@ -133,7 +133,7 @@ fn passes_before_each_step(rt: HostRuntime) -> Result<(), Fail> {
             &BOTH
         )?
     );
-    assert_eq!(rt; gate.passes.load(Ordering::SeqCst), 3);
+    assert!(rt; gate.passes.load(Ordering::SeqCst) == 3);
     Ok(())
 }
 
@@ -145,13 +145,13 @@ fn one_of_two_hands_runs(rt: HostRuntime) -> Result<(), Fail> {
     let zones = layer(&heap, &SQUARE, &HALVES)?;
     let (round, mut hands) = begun(&heap, &sheet, &zones, (2, &TWO))?;
     if let Some(last) = hands.pop() {
-        assert_eq!(rt; last.give_up().number(), 1);
+        assert!(rt; last.give_up().number() == 1);
     }
     match run_round(&rt, round, hands, &Open) {
         Ok(_) => Err(Fail::new("a table without a hand")),
         Err(back) => {
-            assert_eq!(rt; back.fault, CloseFault::HandsMissing(2, 1));
-            assert_eq!(rt; back.threads.as_slice(), [true].as_slice());
+            assert!(rt; back.fault == CloseFault::HandsMissing(2, 1));
+            assert!(rt; back.threads.as_slice() == [true].as_slice());
             Ok(())
         }
     }
@@ -165,7 +165,7 @@ fn two_hands_meet(rt: HostRuntime) -> Result<(), Fail> {
         missed: AtomicU64::new(0),
     };
     assert!(rt; is_run(&rt, &rt.alloc(), (&RINGS, &HALVES), (2, &TWO), &gate, &BOTH)?);
-    assert_eq!(rt; gate.missed.load(Ordering::SeqCst), 0);
+    assert!(rt; gate.missed.load(Ordering::SeqCst) == 0);
     Ok(())
 }
 
@@ -187,6 +187,6 @@ fn others_do_the_work_of_one(rt: HostRuntime) -> Result<(), Fail> {
             &PAIRS
         )?
     );
-    assert_eq!(rt; gate.missed.load(Ordering::SeqCst), 0);
+    assert!(rt; gate.missed.load(Ordering::SeqCst) == 0);
     Ok(())
 }

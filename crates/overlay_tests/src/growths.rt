@@ -9,27 +9,17 @@ use crate::zones::HALVES;
 use fabric_core::{Layer, Sheet};
 use overlay_work::{CloseFault, Round, RoundBack, RoundFault, Step, Table, run_round};
 use refusing_alloc::Refusing;
-use std::alloc::Global;
 use std::sync::Wait;
 use std::test::Fail;
 use std::thread::Threads;
+use test_builders::{Refuses, was_refused};
 use test_cities::{RINGS, SQUARE, layer, sheet};
 
 /// No call here has so many growths.
 const MOST: u64 = 100;
 
-/// The heap of the tests here.
-type Heap = Refusing<Global>;
-
 /// A round that came back, or its table.
-type Closed<'t, 'h> = Result<Table<'t, 'h, Heap, &'h Heap>, RoundBack<'t, 'h, Heap>>;
-
-/// Ends the refusing of growths; whether one was refused.
-fn was_refused(heap: &Heap) -> bool {
-    let is_refused = heap.is_spent();
-    heap.refuse(0);
-    is_refused
-}
+type Closed<'t, 'h, H> = Result<Table<'t, 'h, H, &'h H>, RoundBack<'t, 'h, H>>;
 
 /// That memory is wanting was told, and only where a growth was refused; else all is as it has to be.
 fn told(is_refused: bool, is_wanting: bool, is_so: bool) -> Result<bool, Fail> {
@@ -41,10 +31,10 @@ fn told(is_refused: bool, is_wanting: bool, is_so: bool) -> Result<bool, Fail> {
 }
 
 /// Whether a round of both parcels is begun with memory, and worked off to its table.
-fn is_begun<'t, 'h>(
-    heap: &'h Heap,
-    sheet: &'t Sheet<'h, Heap>,
-    zones: &'t Layer<'h, Heap>,
+fn is_begun<'t, 'h, H: Refuses>(
+    heap: &'h H,
+    sheet: &'t Sheet<'h, H>,
+    zones: &'t Layer<'h, H>,
 ) -> Result<bool, Fail> {
     match Round::new(heap, sheet, zones, lists(heap, (2, &TWO))?) {
         Ok((round, mut hands)) => {
@@ -55,11 +45,12 @@ fn is_begun<'t, 'h>(
     }
 }
 
-/// Begins a round of both parcels with growth `number` refused, and where it was, once more with memory; whether it was.
-fn is_begin_refused<'t, 'h>(
-    heap: &'h Heap,
-    sheet: &'t Sheet<'h, Heap>,
-    zones: &'t Layer<'h, Heap>,
+/// Begins a round of both parcels with growth `number` refused, and where it was, once more with memory; whether it
+/// was.
+fn is_begin_refused<'t, 'h, H: Refuses>(
+    heap: &'h H,
+    sheet: &'t Sheet<'h, H>,
+    zones: &'t Layer<'h, H>,
     number: u64,
 ) -> Result<bool, Fail> {
     let lists = lists(heap, (2, &TWO))?;
@@ -79,10 +70,10 @@ fn is_begin_refused<'t, 'h>(
 }
 
 /// Steps hand 1 with growth `number` refused; whether it was. Hand 0 has done its parcel.
-fn is_step_refused<'t, 'h>(
-    heap: &'h Heap,
-    sheet: &'t Sheet<'h, Heap>,
-    zones: &'t Layer<'h, Heap>,
+fn is_step_refused<'t, 'h, H: Refuses>(
+    heap: &'h H,
+    sheet: &'t Sheet<'h, H>,
+    zones: &'t Layer<'h, H>,
     number: u64,
 ) -> Result<bool, Fail> {
     let (round, mut hands) = begun(heap, sheet, zones, (2, &TWO))?;
@@ -105,10 +96,10 @@ fn is_step_refused<'t, 'h>(
 }
 
 /// Closes a round whose hands are done with growth `number` refused; whether it was.
-fn is_close_refused<'t, 'h>(
-    heap: &'h Heap,
-    sheet: &'t Sheet<'h, Heap>,
-    zones: &'t Layer<'h, Heap>,
+fn is_close_refused<'t, 'h, H: Refuses>(
+    heap: &'h H,
+    sheet: &'t Sheet<'h, H>,
+    zones: &'t Layer<'h, H>,
     number: u64,
 ) -> Result<bool, Fail> {
     let (round, mut hands) = begun(heap, sheet, zones, (2, &TWO))?;
@@ -127,7 +118,7 @@ fn is_close_refused<'t, 'h>(
 }
 
 /// Whether the round has a table of the pairs of both parcels.
-fn has_both(closed: &Closed<'_, '_>) -> bool {
+fn has_both<H: Refuses>(closed: &Closed<'_, '_, H>) -> bool {
     match closed {
         Ok(table) => table.pairs() == BOTH.as_slice(),
         Err(_) => false,
@@ -135,11 +126,11 @@ fn has_both(closed: &Closed<'_, '_>) -> bool {
 }
 
 /// Works a round off by threads with growth `number` refused; whether it was.
-fn is_run_refused<'t, 'h, R: Threads + Wait + Sync>(
+fn is_run_refused<'t, 'h, H: Refuses + Send + Sync, R: Threads + Wait + Sync>(
     rt: &R,
-    heap: &'h Heap,
-    sheet: &'t Sheet<'h, Heap>,
-    zones: &'t Layer<'h, Heap>,
+    heap: &'h H,
+    sheet: &'t Sheet<'h, H>,
+    zones: &'t Layer<'h, H>,
     number: u64,
 ) -> Result<bool, Fail> {
     let (round, hands) = begun(heap, sheet, zones, (2, &TWO))?;
@@ -170,11 +161,11 @@ enum Call {
 }
 
 /// Whether growth `number` of a call was refused.
-fn is_refused<'t, 'h, R: Threads + Wait + Sync>(
+fn is_refused<'t, 'h, H: Refuses + Send + Sync, R: Threads + Wait + Sync>(
     rt: &R,
-    heap: &'h Heap,
-    sheet: &'t Sheet<'h, Heap>,
-    zones: &'t Layer<'h, Heap>,
+    heap: &'h H,
+    sheet: &'t Sheet<'h, H>,
+    zones: &'t Layer<'h, H>,
     call: Call,
     number: u64,
 ) -> Result<bool, Fail> {
@@ -187,11 +178,11 @@ fn is_refused<'t, 'h, R: Threads + Wait + Sync>(
 }
 
 /// The first growth of a call that is not refused, since it makes fewer.
-fn first_unrefused<'t, 'h, R: Threads + Wait + Sync>(
+fn first_unrefused<'t, 'h, H: Refuses + Send + Sync, R: Threads + Wait + Sync>(
     rt: &R,
-    heap: &'h Heap,
-    sheet: &'t Sheet<'h, Heap>,
-    zones: &'t Layer<'h, Heap>,
+    heap: &'h H,
+    sheet: &'t Sheet<'h, H>,
+    zones: &'t Layer<'h, H>,
     call: Call,
 ) -> Result<u64, Fail> {
     for number in 1..MOST {
@@ -203,9 +194,9 @@ fn first_unrefused<'t, 'h, R: Threads + Wait + Sync>(
 }
 
 /// The same of a call over both parcels and both zones.
-fn first_unrefused_of_both<R: Threads + Wait + Sync>(
+fn first_unrefused_of_both<H: Refuses + Send + Sync, R: Threads + Wait + Sync>(
     rt: &R,
-    heap: &Heap,
+    heap: &H,
     call: Call,
 ) -> Result<u64, Fail> {
     let sheet = sheet(heap, &SQUARE, &RINGS)?;

@@ -33,7 +33,8 @@ fn pairs_of<'h, H: Allocator, A: Allocator + Copy>(
     shape: &Shape<&'h H>,
     zones: &Layer<'h, H>,
 ) -> Result<Vec<(u64, u64), A>, AllocError>
-    ensures { IfOk result (λ pairs. IsOverlapTable (numbered id shape.now.ring.corners ∷ []) zones.now.rows pairs.items) }
+    ensures { IfOk result (λ pairs. IsOverlapTable (numbered id shape.now.ring.corners ∷ [])
+        zones.now.rows pairs.items) }
 {
     let _ = zones.ids();
     let mut pairs = Vec::new(alloc);

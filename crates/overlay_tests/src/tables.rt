@@ -4,10 +4,10 @@ use crate::pairs::all_pairs;
 use crate::reports::report_of;
 use crate::zones::{HALVES, LEFT, RIGHT};
 use refusing_alloc::Refusing;
-use std::alloc::{Allocator, Global};
+use std::alloc::Allocator;
 use std::test::Fail;
-use test_builders::Place;
-use test_cities::{EAST, SQUARE, WEST, city, layer_in, sheet_in};
+use test_builders::{Place, Refuses, was_refused};
+use test_cities::{EAST, RINGS, SQUARE, WEST, city, layer_in, sheet_in};
 use zone_tables::Table;
 
 const BELOW: [Place; 3] = [(0, 0), (100, 0), (100, 100)];
@@ -109,33 +109,45 @@ const MOST: u64 = 20;
 
 /// The split-zoned parcels are told, or growth `number` is refused, and then they are told with
 /// memory; whether it was refused.
-fn is_refused(
-    heap: &Refusing<Global>,
-    table: &Table<'_, '_, Refusing<Global>, &Refusing<Global>>,
+fn is_refused<'h, H: Refuses>(
+    heap: &'h H,
+    table: &Table<'_, 'h, H, &'h H>,
     number: u64,
 ) -> Result<bool, Fail> {
     heap.refuse(number);
-    let split = table.split_zoned();
-    let is_refused = heap.is_spent();
-    heap.refuse(0);
-    if split.is_err() != is_refused || table.split_zoned()?.as_slice() != [1].as_slice() {
+    let is_wanting = table.split_zoned().is_err();
+    let is_refused = was_refused(heap);
+    if is_wanting != is_refused || table.split_zoned()?.as_slice() != [1].as_slice() {
         return Err(Fail::new("a refusal is told, and nothing else is"));
     }
     Ok(is_refused)
 }
 
-#[test]
-fn refuses_each_growth(rt: HostRuntime) -> Result<(), Fail> {
-    let heap = Refusing::new(rt.alloc(), 0);
-    let city = city(&heap, &SQUARE)?;
-    let sheet = sheet_in(&heap, &city, &[&WEST, &EAST])?;
-    let zones = layer_in(&heap, &city, &HALVES)?;
-    let table = Table::gather(&sheet, &zones, all_pairs(&heap, &sheet, &zones)?);
+/// The first growth that is not refused, since there are fewer.
+fn first_unrefused<'h, H: Refuses>(
+    heap: &'h H,
+    table: &Table<'_, 'h, H, &'h H>,
+) -> Result<u64, Fail> {
     for number in 1..MOST {
-        if !is_refused(&heap, &table, number)? {
-            assert!(rt; number > 1);
-            return Ok(());
+        if !is_refused(heap, table, number)? {
+            return Ok(number);
         }
     }
     Err(Fail::new("each growth was refused"))
+}
+
+/// The same, of the table of a parcel in two zones.
+fn first_unrefused_of_two<H: Refuses>(heap: &H) -> Result<u64, Fail> {
+    let city = city(heap, &SQUARE)?;
+    let sheet = sheet_in(heap, &city, &RINGS)?;
+    let zones = layer_in(heap, &city, &HALVES)?;
+    let table = Table::gather(&sheet, &zones, all_pairs(heap, &sheet, &zones)?);
+    first_unrefused(heap, &table)
+}
+
+#[test]
+fn refuses_each_growth(rt: HostRuntime) -> Result<(), Fail> {
+    let heap = Refusing::new(rt.alloc(), 0);
+    assert!(rt; first_unrefused_of_two(&heap)? > 1);
+    Ok(())
 }

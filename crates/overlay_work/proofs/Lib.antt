@@ -13,3 +13,4 @@ pub mod Tables
 pub mod SortedPairs
 pub mod Faults
 pub mod Taken
+pub mod Crossing

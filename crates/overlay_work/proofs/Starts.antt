@@ -7,7 +7,8 @@ use Rattle.overlay_work.specs.own.Kept.{started, AreFresh}
 use Rattle.geo_exact.specs.declared.corner.Corner.{Corner}
 use Rattle.overlay_work.specs.declared.round.RoundFault.{RoundFault}
 use Rattle.overlay_work.specs.declared.round.RoundFault.TheVariants.{HandCount, OtherCity, NotASharing, NoMemory}
-use Rattle.overlay_work.specs.Faults.{IsRoundFault}
+use Rattle.overlay_work.specs.Faults.{IsRoundFault, NeedsNoMemory}
+use Rattle.overlay_work.specs.Sharing.{HasHands}
 use Rattle.overlay_work.specs.own.Starting.{CanBegin}
 use Rattle.overlay_work.proofs.ZonesFound.{all_snoc}
 use Rattle.overlay_work.proofs.Differences.{in_place}
@@ -80,3 +81,12 @@ pub refused : (ids : List ℕ) (city zones_city : List Corner) (lists : List (Li
     → (told ≡ fault) ⊎ (told ≡ NoMemory)
 refused ids city zones_city lists told fault is has =
     ⊎_elim (λ one. inl (one_fault ids city zones_city lists told fault one has)) (λ memory. inr memory) is
+
+-- of a round with lists enough, of one city, no reason is left that is told before any memory is asked for
+pub none_early : (ids : List ℕ) (city zones_city : List Corner) (lists : List (List ℕ)) (fault : RoundFault)
+    → HasHands lists → zones_city ≡ city
+    → IsRoundFault ids city zones_city lists fault → NeedsNoMemory fault → ⊥
+none_early ids city zones_city lists (HandCount count) few same is early = is.0 few
+none_early ids city zones_city lists OtherCity few same is early = is.1 same
+none_early ids city zones_city lists (NotASharing id) few same is early = early
+none_early ids city zones_city lists NoMemory few same is early = early

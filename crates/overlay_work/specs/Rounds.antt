@@ -27,9 +27,9 @@ pub record Task : Type 0 where
   pub city : List Corner
   pub entries : ℕ
 
--- What a hand shows: its round's task, its number, the places of the lists that it claimed, in order, the parcels that it did, in order,
--- the pairs that it kept, the parcel that it has claimed and not yet done, the lists that it found at their end, and how many tests of a
--- parcel and a zone it made.
+-- What a hand shows: its round's task, its number, the places of the lists that it claimed, in order, the parcels that
+-- it did, in order, the pairs that it kept, the parcel that it has claimed and not yet done, the lists that it found at
+-- their end, and how many tests of a parcel and a zone it made.
 pub record Progress : Type 0 where
   pub task : Task
   pub number : ℕ
@@ -42,7 +42,8 @@ pub record Progress : Type 0 where
 
 -- a hand that has done nothing; and the first hands
 abbrev pub fresh : Task → ℕ → Progress
-fresh task number = record { task = task; number = number; claimed = []; did = []; kept = []; holds = None; ended = []; tests = 0 }
+fresh task number =
+    record { task = task; number = number; claimed = []; did = []; kept = []; holds = None; ended = []; tests = 0 }
 
 abbrev pub fresh_hands : Task → ℕ → List Progress
 fresh_hands task zero = []
@@ -55,7 +56,8 @@ pub record ArePairsOf (rows zones : List NumberedRing) (id : ℕ) (pairs : List 
   pub exactly : (zone : ℕ) → Contains pairs (id, zone) ↔ Overlaps rows zones id zone
 
 -- the ids are the zones that are candidates for the parcel's box
-pub record AreCandidatesFor (rows zones : List NumberedRing) (city : List Corner) (id : ℕ) (candidates : List ℕ) : Type 0 where
+pub record AreCandidatesFor (rows zones : List NumberedRing) (city : List Corner) (id : ℕ)
+    (candidates : List ℕ) : Type 0 where
   pub parcel : NumberedRing
   pub is_row : Contains rows parcel
   pub has_id : parcel.number ≡ id
@@ -97,8 +99,8 @@ pub record ClaimsParcel (old new : Progress) (id : ℕ) : Type 0 where
 abbrev pub HasParcel : (old new : Progress) (id : ℕ) → Type 0
 HasParcel old new id = HeldParcel old new id ⊎ ClaimsParcel old new id
 
--- The hand did this parcel, which it held or has claimed now: it kept all pairs of it, made a test for each candidate, and holds nothing.
--- It has not found all ends.
+-- The hand did this parcel, which it held or has claimed now: it kept all pairs of it, made a test for each candidate,
+-- and holds nothing. It has not found all ends.
 pub record DoesParcel (old new : Progress) (id : ℕ) : Type 0 where
   pub has_parcel : HasParcel old new id
   pub did : new.did ≡ old.did ++ id ∷ []
@@ -115,11 +117,13 @@ pub record DoesParcel (old new : Progress) (id : ℕ) : Type 0 where
 abbrev pub known_by : Progress → View
 known_by hand = record { lengths = hand.task.claims.lengths; parts = 1; places = hand.claimed; notes = hand.ended }
 
--- Whatever the words and what all hands know may be, where the rule of the words holds and this hand is one of them: the ids
--- at the places that they claimed are the parcels, each once. So each parcel was claimed, by this hand or another.
+-- Whatever the words and what all hands know may be, where the rule of the words holds and this hand
+-- is one of them: the ids at the places that they claimed are the parcels, each once. So each parcel
+-- was claimed, by this hand or another.
 abbrev pub AreAllClaimed : Progress → Type 0
 AreAllClaimed hand = (words : List ℕ) (views : List View) → IsClaimed hand.task.claims.lengths words views
-    → Contains views (known_by hand) → IsPermutation (map (id_at hand.task.lists) (places_of views)) (numbers hand.task.rows)
+    → Contains views (known_by hand)
+    → IsPermutation (map (id_at hand.task.lists) (places_of views)) (numbers hand.task.rows)
 
 -- The hand holds nothing and has found each list at its end, so that all parcels are claimed; what it did before stays.
 pub record IsDone (old new : Progress) : Type 0 where

@@ -16,7 +16,7 @@ pub enum CloseFault {
     Holding(usize),
     /// O4: no hand has found each list at its end.
     NotDone,
-    /// An allocation was refused.
+    /// An allocation failed.
     NoMemory,
 }
 

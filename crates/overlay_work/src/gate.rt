@@ -6,7 +6,8 @@ ghost use Rattle.overlay_work.specs.Rounds.{WorksOff};
 use crate::hand::{Hand, Step};
 use std::alloc::Allocator;
 
-/// Where hands that work at the same time may be held: before each step.
+/// Where hands that work at the same time may be held: before each step. Tests hold them there, to try an order of
+/// steps; the program lets all pass.
 pub trait Gate {
     /// What is so once the hand with a number has passed. Where a gate says nothing of it, nothing is.
     ghost passed_by: { ℕ → Type 0 } = { λ hand. Unit {0} };

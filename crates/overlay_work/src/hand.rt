@@ -22,7 +22,7 @@ pub enum Step {
     Did(u64),
     /// Each list was found at its end: all parcels were claimed, and this hand holds none.
     Done,
-    /// An allocation was refused. The parcel stays with the hand, and a later step does it.
+    /// An allocation failed. The parcel stays with the hand, and a later step does it.
     NoMemory,
 }
 
@@ -164,7 +164,7 @@ impl<'t, 'h, H: Allocator> Hand<'t, 'h, H> {
         self.holds.is_some()
     }
 
-    /// It did no more parcels than a layer may have.
+    /// Only teaches the prover: it did no more parcels than a layer may have.
     pub(crate) fn use_invariant(&self)
         ensures { length self.now.did ≤ LAYER_CORNERS }
     {

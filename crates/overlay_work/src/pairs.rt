@@ -38,6 +38,7 @@ fn kept_by<'l, 't, 'h, H: Allocator>(
 
 /// How many pairs hands kept.
 fn count_of<'t, 'h, H: Allocator>(hands: &[Hand<'t, 'h, H>]) -> usize {
+    // It says for how many pairs room is made, and no more: `merged` takes any number of them.
     let mut count = 0usize;
     for hand in hands {
         count = count.saturating_add(hand.kept().len());
@@ -56,6 +57,7 @@ fn merged<'l, 'h, H: Allocator>(
     let mut queues = lists;
     let mut pairs = Vec::with_capacity(heap, count)?;
     let mut at = 0;
+    // No parcel's id, so that the first list is looked for.
     let mut parcel = 0;
     for _ in 0..count {
         at = next_list(&queues, at, parcel);
@@ -93,6 +95,7 @@ fn has_parcel<A: Allocator>(queues: &Queues<'_, (u64, u64), A>, at: usize, parce
 /// A list whose next pair has the least parcel.
 fn least_list<A: Allocator>(queues: &Queues<'_, (u64, u64), A>) -> usize {
     let mut least = 0;
+    // Above the id of each parcel, so that any pair is less.
     let mut parcel = u64::MAX;
     for at in 0..queues.len() {
         if let Some((id, _)) = queues.first(at)

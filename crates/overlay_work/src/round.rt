@@ -1,19 +1,20 @@
 //! A round: the parcels of a sheet dealt to hands, to be laid over zones.
 
-ghost use Rattle.std.specs.Prelude.{◌≡◌, ◌⊎◌, ◌↔◌, [], ℕ, map, flat_map, length, IsTrue, IfOk, IfErr, OnOk, IsErrAnd, IsPermutation};
+ghost use Rattle.std.specs.Prelude.{◌≡◌, ◌⊎◌, ◌↔◌, [], ℕ, map, flat_map, length, IsTrue, IfOk, IfErr};
+ghost use Rattle.std.specs.Prelude.{OnOk, IsErrAnd, IsErrOf, IsPermutation};
 ghost use Rattle.fabric_core.specs.Rows.{numbers};
 ghost use Rattle.overlay_work.specs.declared.round.TheConstants.{MOST_HANDS};
 ghost use Rattle.overlay_work.specs.declared.round.RoundFault.{RoundFault};
 ghost use Rattle.overlay_work.specs.declared.round.RoundFault.TheVariants.{NoMemory};
 ghost use Rattle.overlay_work.specs.declared.close.CloseFault.{CloseFault};
 ghost use Rattle.overlay_work.specs.declared.close.CloseFault.TheVariants.{NoMemory as NoRoom};
-ghost use Rattle.overlay_work.specs.Sharing.{IsSharing};
+ghost use Rattle.overlay_work.specs.Sharing.{HasHands, IsSharing};
 ghost use Rattle.std.specs.Arc.{arc_value};
 ghost use Rattle.zone_tables.specs.Overlap.{IsOverlapTable};
 ghost use Rattle.overlay_claims.specs.Claims.{all_places};
 ghost use Rattle.overlay_claims.specs.Claimants.{fresh_hands as fresh_claimants};
 ghost use Rattle.overlay_work.specs.Rounds.{fresh_hands, AreHandsOf};
-ghost use Rattle.overlay_work.specs.Faults.{IsRoundFault, IsCloseFault};
+ghost use Rattle.overlay_work.specs.Faults.{IsRoundFault, NeedsNoMemory, IsCloseFault};
 ghost use Rattle.overlay_work.specs.own.Gathered.{AreDone, AreSortedPairsOf};
 ghost use Rattle.overlay_work.specs.own.Starting.{CanBegin};
 
@@ -49,7 +50,7 @@ pub enum RoundFault {
     OtherCity,
     /// O1: the least id that does not stand exactly once in the lists, or is no parcel of the sheet.
     NotASharing(u64),
-    /// An allocation was refused.
+    /// An allocation failed.
     NoMemory,
 }
 
@@ -90,7 +91,7 @@ impl<'t, 'h, H: Allocator> Round<'t, 'h, H> {
     ///
     /// The first of these that applies: [`RoundFault::HandCount`] (O3), [`RoundFault::OtherCity`]
     /// (O2), [`RoundFault::NotASharing`] (O1); and [`RoundFault::NoMemory`] where an allocation is
-    /// refused.
+    /// refused, but never in place of O3 and O2.
     pub fn new(
         heap: &'h H,
         sheet: &'t Sheet<'h, H>,
@@ -110,6 +111,9 @@ impl<'t, 'h, H: Allocator> Round<'t, 'h, H> {
             (map (λ list. list.items) sharing.entry.items) fault ⊎ (fault ≡ NoMemory)) }
         ensures refuses { (fault : RoundFault) → IsRoundFault (numbers sheet.now.now.rows) sheet.now.city zones.now.city
             (map (λ list. list.items) sharing.entry.items) fault → IsErrAnd result (λ e. (e ≡ fault) ⊎ (e ≡ NoMemory)) }
+        // O3 and O2 are told before any memory is asked for.
+        ensures exact { (fault : RoundFault) → IsRoundFault (numbers sheet.now.now.rows) sheet.now.city zones.now.city
+            (map (λ list. list.items) sharing.entry.items) fault → NeedsNoMemory fault → IsErrOf result fault }
     {
         if let Err(fault) = check(heap, sheet, zones, sharing.as_slice()) {
             return Err(fault);
@@ -151,12 +155,14 @@ impl<'t, 'h, H: Allocator> Round<'t, 'h, H> {
         // Each place of the lists was claimed by one hand, once, and each parcel done by one, once.
         ensures claimed { OnOk result (IsPermutation (flat_map (λ hand. hand.claimed) hands.entry.items)
             (all_places 0 (map (λ list. length list) self.entry.lists))) }
-        ensures once { OnOk result (IsPermutation (flat_map (λ hand. hand.did) hands.entry.items) (numbers self.entry.rows)) }
+        ensures once { OnOk result (IsPermutation (flat_map (λ hand. hand.did) hands.entry.items)
+            (numbers self.entry.rows)) }
         ensures back { IfErr result (λ back. (back.round ≡ self.entry) × (back.hands.items ≡ hands.entry.items)) }
         ensures no_threads { IfErr result (λ back. back.threads ≡ []) }
         // A fault that is answered is the round's, or memory is wanting; and a round with a fault is
         // refused by that one, also where memory is wanting.
-        ensures fault { IfErr result (λ back. IsCloseFault self.entry hands.entry.items back.fault ⊎ (back.fault ≡ NoRoom)) }
+        ensures fault { IfErr result (λ back. IsCloseFault self.entry hands.entry.items back.fault
+            ⊎ (back.fault ≡ NoRoom)) }
         ensures refuses { (fault : CloseFault) → IsCloseFault self.entry hands.entry.items fault
             → IsErrAnd result (λ back. back.fault ≡ fault) }
     {
@@ -213,9 +219,31 @@ fn check<'h, H: Allocator>(
     zones: &Layer<'h, H>,
     lists: &[Vec<u64, &'h H>],
 ) -> Result<(), RoundFault>
-    ensures ok { OnOk result (CanBegin (numbers sheet.now.now.rows) sheet.now.city zones.now.city (map (λ list. list.items) lists.now)) }
+    ensures ok { OnOk result (CanBegin (numbers sheet.now.now.rows) sheet.now.city zones.now.city
+        (map (λ list. list.items) lists.now)) }
     ensures fault { IfErr result (λ fault. IsRoundFault (numbers sheet.now.now.rows) sheet.now.city zones.now.city
         (map (λ list. list.items) lists.now) fault ⊎ (fault ≡ NoMemory)) }
+    ensures exact { (fault : RoundFault) → IsRoundFault (numbers sheet.now.now.rows) sheet.now.city zones.now.city
+        (map (λ list. list.items) lists.now) fault → NeedsNoMemory fault → IsErrOf result fault }
+{
+    check_early(sheet, zones, lists)?;
+    let _ = sheet.ids();
+    match least_out_of_place(heap, sheet, lists)? {
+        Some(id) => Err(RoundFault::NotASharing(id)),
+        None => Ok(()),
+    }
+}
+
+/// Whether there are lists enough, of one city, or the first of these faults. It has no heap: it asks for no memory.
+fn check_early<'h, H: Allocator>(
+    sheet: &Sheet<'h, H>,
+    zones: &Layer<'h, H>,
+    lists: &[Vec<u64, &'h H>],
+) -> Result<(), RoundFault>
+    ensures hands { OnOk result (HasHands (map (λ list. list.items) lists.now)) }
+    ensures city { OnOk result (zones.now.city ≡ sheet.now.city) }
+    ensures fault { IfErr result (IsRoundFault (numbers sheet.now.now.rows) sheet.now.city zones.now.city
+        (map (λ list. list.items) lists.now)) }
 {
     if lists.is_empty() || lists.len() > MOST_HANDS {
         return Err(RoundFault::HandCount(lists.len()));
@@ -223,11 +251,7 @@ fn check<'h, H: Allocator>(
     if !are_same(zones.city(), sheet.city()) {
         return Err(RoundFault::OtherCity);
     }
-    let _ = sheet.ids();
-    match least_out_of_place(heap, sheet, lists)? {
-        Some(id) => Err(RoundFault::NotASharing(id)),
-        None => Ok(()),
-    }
+    Ok(())
 }
 
 /// Whether two lists of corners are the same.
@@ -251,7 +275,8 @@ fn begin<'t, 'h, H: Allocator>(
     ensures zones { IfOk result (λ made. (arc_value made.0).zones ≡ zones.now.rows) }
     ensures city { IfOk result (λ made. (arc_value made.0).city ≡ sheet.now.city) }
     ensures entries { IfOk result (λ made. (arc_value made.0).entries ≡ length sheet.now.journal) }
-    ensures claimants { IfOk result (λ made. made.1.items ≡ fresh_claimants (arc_value made.0).claims (length lists.entry.items)) }
+    ensures claimants { IfOk result (λ made. made.1.items
+        ≡ fresh_claimants (arc_value made.0).claims (length lists.entry.items)) }
 {
     sheet.use_invariant();
     let lengths = lengths_of(heap, lists.as_slice())?;

@@ -65,12 +65,14 @@ pub fn run_round<'t, 'h, H: Allocator + Send + Sync, G: Gate + Sync, R: Threads 
     ensures back { IfErr result (λ back. (back.round ≡ round.entry) × AreHandsOf round.entry back.hands.items) }
     ensures as_many { IfErr result (λ back. length back.hands.items ≡ length hands.entry.items) }
     ensures worked { IfErr result (λ back. AllZip HasGoneOn hands.entry.items back.hands.items) }
-    ensures fault { IfErr result (λ back. IsRunFault round.entry hands.entry.items back.hands.items back.threads back.fault) }
+    ensures fault { IfErr result (λ back. IsRunFault round.entry hands.entry.items back.hands.items
+        back.threads back.fault) }
     // A round with hands missing is not closed.
     ensures refuses { (AreAllIn round.entry hands.entry.items → ⊥) → IsErr result }
     // Each hand passed the gate under its number, unless memory for the threads was refused.
     ensures passed { AllByRecursion (λ hand. G.passed_by hand.number) hands.entry.items
-        ⊎ IsErrAnd result (λ back. (back.fault ≡ NoMemory) × (back.hands.items ≡ hands.entry.items) × (back.threads ≡ [])) }
+        ⊎ IsErrAnd result (λ back. (back.fault ≡ NoMemory) × (back.hands.items ≡ hands.entry.items)
+        × (back.threads ≡ [])) }
 {
     let AllDone {
         jobs: hands,
@@ -99,7 +101,8 @@ pub fn run_round<'t, 'h, H: Allocator + Send + Sync, G: Gate + Sync, R: Threads 
     close_worked(round, hands, threads)
 }
 
-/// Closes a round whose hands were worked with, each in a thread of its own. One that holds a parcel stopped for want of memory.
+/// Closes a round whose hands were worked with, each in a thread of its own. One that holds
+/// a parcel stopped for want of memory.
 fn close_worked<'t, 'h, H: Allocator>(
     round: Round<'t, 'h, H>,
     hands: Vec<Hand<'t, 'h, H>, &'h H>,

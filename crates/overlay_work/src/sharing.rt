@@ -47,6 +47,7 @@ fn are_dealt_in_order<'h, H: Allocator, A: Allocator>(
         if next != id {
             return Ok(false);
         }
+        // Where ids were dealt one by one, the next list has the next id.
         turn = at.saturating_add(1);
     }
     Ok(queues.are_empty())

@@ -78,7 +78,7 @@ impl<'t, 'h, H: Allocator> Work<'t, 'h, H> {
         }
     }
 
-    /// The lists share the sheet's ids.
+    /// Only teaches the prover: the lists share the sheet's ids.
     pub(crate) fn use_invariant(&self)
         ensures { IsTask self.now }
     {

@@ -9,6 +9,7 @@ pub mod Places
 pub mod EditedRuns
 pub mod RunFaults
 pub mod OverlayFaults
+pub mod InputFaults
 pub mod LinesWritten
 pub mod RunTexts
 pub mod DealtLists

@@ -1,5 +1,5 @@
 -- A parcel of a tiling can be a city itself: its ring has no fault, for no place is in it twice.
-use Rattle.std.proofs.Common.{◌≡◌, ◌⊎◌, inl, inr, sym, subst, arith, ℕ, zero, suc, ◌<◌, ◌≤◌, pos, List, [], ◌∷◌, length, get_or}
+use Rattle.std.proofs.Common.{◌≡◌, ◌⊎◌, inl, inr, sym, subst, arith, ℕ, zero, suc, ◌<◌, pos, List, [], ◌∷◌, length, get_or}
 use Rattle.std.specs.List.{Contains}
 use Rattle.std.proofs.lemmas.Int.{ints, by_lt_z}
 use Rattle.std.proofs.lemmas.Option.{get_or_from_slice_get}
@@ -82,7 +82,8 @@ module _ (rows : List NumberedRing) (city : List Corner) (simple : AreSimple row
       (moved_interior (triangle_ring o.one) p o.meet.1) in
       let in_other = subst (λ t. IsInterior (moved p) (triangle_ring t)) (sym (get_or_from_slice_get ts j o.other o.one o.at_j))
       (moved_interior (triangle_ring o.other) p o.meet.2) in
-      let twice : pos 2 ≤ℤ winding_of_triangles (moved p) ts = in_two_of (moved p) o.one ts i j fold.2.ordered fold.2.below in_one in_other in
+      let twice : pos 2 ≤ℤ winding_of_triangles (moved p) ts =
+      in_two_of (moved p) o.one ts i j fold.2.ordered fold.2.below in_one in_other in
       let same : winding (moved p) row.corners ≡ winding_of_triangles (moved p) ts = made.windings (moved p) in
       let once : winding (moved p) row.corners ≤ℤ pos 1 = at_most_once (moved p) row c (moved_off rows city p) in
       omega (arith, ints, twice, same, once)

@@ -1,5 +1,5 @@
 -- What is written of a row of a tiling is its part.
-use Rattle.std.proofs.Common.{◌≡◌, refl, subst, List, [], ◌∷◌, map}
+use Rattle.std.proofs.Common.{◌≡◌, refl, subst, ℕ, List, [], ◌∷◌, map}
 use Rattle.std.specs.List.{AllZip, Contains}
 use Rattle.std.proofs.lemmas.List.Elements.{Contains-append_left, Contains-append_right, Contains-push}
 use Rattle.geo_exact.specs.declared.coord.Unit.{Unit as LengthUnit}
@@ -10,7 +10,7 @@ use Rattle.fabric_core.specs.Rows.{Tiles, corners_of_layer}
 use Rattle.city_layers.specs.TilingFiles.{Files, AreTiles}
 use Rattle.parcel_runs.specs.PartReport.{IsPart}
 use Rattle.parcel_runs.specs.own.WrittenParts.{IsWrittenPart}
-use Rattle.parcel_runs.specs.declared.part.WrittenPart.{WrittenPart}
+use Rattle.parcel_runs.specs.declared.export.Exported.{Exported}
 use Rattle.parcel_runs.proofs.BegunTwice.{row_begins}
 use Rattle.parcel_runs.proofs.PartRings.{row_is_a_city}
 
@@ -29,8 +29,8 @@ of_shapes f R shapes parts rows e h = subst (λ rows. AllZip R rows parts) e (ma
 -- ---- the rows of a tiling
 module _ {A : Type 0} (city districts : Files) (unit : LengthUnit) (tiles : Tiles) (are : AreTiles city districts unit tiles)
     (simple : AreSimple tiles.rows) (tiling : IsTiling tiles.rows tiles.city) where
-  pub part_of_row : (row : NumberedRing) (part : WrittenPart A) → Contains tiles.rows row → IsWrittenPart row part
-      → IsPart city districts unit row.number part.main.items part.index.items part.line.items
+  pub part_of_row : (row : NumberedRing) (part : ℕ × Exported A) → Contains tiles.rows row → IsWrittenPart row part
+      → IsPart city districts unit row.number part.1.main.items part.1.index.items part.1.lines.items
   part_of_row row part c h =
       let tiled = are.is_tiled in
       record {
@@ -50,11 +50,11 @@ module _ {A : Type 0} (city districts : Files) (unit : LengthUnit) (tiles : Tile
         is_told = h.is_told;
       }
 
-  abbrev pub IsPartOf : NumberedRing → WrittenPart A → Type 0
-  IsPartOf row part = (part.id ≡ row.number)
-      × IsPart city districts unit row.number part.main.items part.index.items part.line.items
+  abbrev pub IsPartOf : NumberedRing → ℕ × Exported A → Type 0
+  IsPartOf row part = (part.0 ≡ row.number)
+      × IsPart city districts unit row.number part.1.main.items part.1.index.items part.1.lines.items
 
-  some_parts : (rows : List NumberedRing) (parts : List (WrittenPart A))
+  some_parts : (rows : List NumberedRing) (parts : List (ℕ × Exported A))
       → ((row : NumberedRing) → Contains rows row → Contains tiles.rows row)
       → AllZip IsWrittenPart rows parts → AllZip IsPartOf rows parts
   some_parts [] [] within h = tt
@@ -65,5 +65,5 @@ module _ {A : Type 0} (city districts : Files) (unit : LengthUnit) (tiles : Tile
     some_parts rows parts (λ other c. within other (Contains-append_right (row ∷ []) rows other c)) h.1,
   )
 
-  pub all_parts : (parts : List (WrittenPart A)) → AllZip IsWrittenPart tiles.rows parts → AllZip IsPartOf tiles.rows parts
+  pub all_parts : (parts : List (ℕ × Exported A)) → AllZip IsWrittenPart tiles.rows parts → AllZip IsPartOf tiles.rows parts
   all_parts parts h = some_parts tiles.rows parts (λ row c. c) h

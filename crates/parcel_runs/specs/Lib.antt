@@ -3,6 +3,7 @@ pub mod ExportReport
 pub mod PartReport
 pub mod RunFiles
 pub mod RunFaults
+pub mod RunInputs
 pub mod LocateReport
 pub mod OverlayReport
 pub mod own

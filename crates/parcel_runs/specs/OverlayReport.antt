@@ -15,8 +15,7 @@ use Rattle.clerk_runs.specs.ClerkRuns.{Register, IsEdited}
 use Rattle.parcel_runs.specs.RunFiles.{ParcelRun}
 use Rattle.parcel_runs.specs.RunFaults.{IsCrowded, IsClerkFault, IsWant}
 
--- the table is all pairs of a parcel of the register and a zone whose interiors meet; it names how many entries led to
--- these parcels
+-- the table is all pairs of the register's parcels and zones whose interiors meet, and says how many entries led there
 pub record IsTableOf {A : Type 0} (after : Register A) (regions : Tiles) (table : Overlay) : Type 0 where
   pub rows : table.rows ≡ after.now.rows
   pub zones : table.zones ≡ regions.rows

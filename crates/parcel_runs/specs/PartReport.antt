@@ -11,7 +11,7 @@ use Rattle.city_layers.specs.AreaReport.{area_line}
 use Rattle.city_layers.specs.declared.fault.ToolFault.{ToolFault}
 use Rattle.city_layers.specs.declared.fault.ToolFault.TheVariants.{NoParcel}
 use Rattle.city_layers.specs.TilingFiles.{Files, AreTiles, IsCityOf, IsTilesFault}
-use Rattle.parcel_runs.specs.declared.part.WrittenPart.{WrittenPart}
+use Rattle.parcel_runs.specs.declared.export.Exported.{Exported}
 
 -- `part ID AREA2`, twice the area of the row's ring
 abbrev pub part_line : NumberedRing → List ℕ
@@ -43,9 +43,10 @@ IsPartFault city districts unit id fault =
     IsTilesFault city districts unit fault ⊎ IsNoParcel city districts unit id fault
 
 -- the districts' files tile the city of the city's files; there is one part for each row, in the rows' order (which is
--- by ascending number), under the row's number, and what is written and printed of it is that row's part
-pub record AreAllParts {A : Type 0} (city districts : Files) (unit : LengthUnit) (parts : List (WrittenPart A)) : Type 0 where
+-- by ascending number), beside the row's number, and what is written and printed of it is that row's part
+pub record AreAllParts {A : Type 0} (city districts : Files) (unit : LengthUnit) (parts : List (ℕ × Exported A))
+    : Type 0 where
   pub tiles : Tiles
   pub are_tiles : AreTiles city districts unit tiles
-  pub are_parts : AllZip (λ row part. (part.id ≡ row.number)
-      × IsPart city districts unit row.number part.main.items part.index.items part.line.items) tiles.rows parts
+  pub are_parts : AllZip (λ row part. (part.0 ≡ row.number)
+      × IsPart city districts unit row.number part.1.main.items part.1.index.items part.1.lines.items) tiles.rows parts

@@ -5,8 +5,7 @@ use Rattle.city_layers.specs.TilingFiles.{Files, files_of}
 use Rattle.clerk_runs.specs.ClerkFiles.{texts_of}
 use Rattle.parcel_runs.specs.declared.run_files.RunFiles.{RunFiles}
 
--- the bytes of a city's files and of its parcels' files, the unit of their coordinates, and the bytes of the clerks'
--- files, in their order
+-- the bytes of a city's files and of its parcels', their coordinates' unit, and the bytes of clerks' files, in order
 pub record ParcelRun : Type 0 where
   pub city : Files
   pub parcels : Files

@@ -1,7 +1,9 @@
 //! Whether parcels tile their city.
 
-ghost use Rattle.std.specs.Prelude.{◌≡◌, ◌⊎◌, ◌≤◌, ◌++◌, ℕ, List, length, codes, decimal};
-ghost use Rattle.std.specs.Prelude.{IfOk, IfErr, IsErrAnd, IsErrOf, OnOk, OnErr};
+ghost use Rattle.std.specs.Prelude.{◌≡◌, ◌⊎◌, ◌<◌, ◌≤◌, ◌++◌, ℕ, List, [], length, IfOk, IfErr, IsErrAnd, IsErrOf};
+ghost use Rattle.std.specs.Prelude.{IsOk, OnOk, OnErr};
+ghost use Rattle.std.specs.Io.KnownBytes.{Appends};
+ghost use Rattle.text_pieces.specs.Beginnings.{AppendsBeginning};
 ghost use Rattle.std.specs.Borrow.{Bor};
 ghost use Rattle.geo_exact.specs.Bytes.{raised};
 ghost use Rattle.geo_exact.specs.declared.limits.TheConstants.{LIST_CORNERS};
@@ -14,16 +16,19 @@ ghost use Rattle.clerk_runs.specs.ClerkRuns.{Register, AreMade};
 ghost use Rattle.parcel_runs.specs.RunFaults.{IsRunFault, IsWant};
 ghost use Rattle.desk_lock.specs.declared.opening.TheConstants.{MOST_PLACES};
 
-use crate::inputs::{RunInputs, load_inputs, load_inputs_or_lines};
-use crate::outcome::edit_layer;
+use crate::all_inputs::load_inputs_or_lines;
+use crate::edited::edit_layer;
+use crate::inputs::{RunInputs, load_inputs};
 use crate::run_files::RunFiles;
+use crate::sheets::push_sheet_tiling;
 use city_layers::ToolFault;
-use geo_exact::ByteOut;
+use clerk_runs::Edited;
+use geo_exact::{ByteOut, Failed};
 use shp_files::a_layer_file_is_within_the_limits;
 use std::alloc::Allocator;
 use std::sync::Wait;
 use std::thread::Threads;
-use text_pieces::{Piece, Sink, push_pieces, put_all};
+use text_pieces::put_all;
 
 /// Writes `tiling N AREA2` where the parcels tile their city exactly: how many they are, and twice
 /// the city's area in square millimetres. Before that the edits of clerks' files are made at one
@@ -37,7 +42,13 @@ use text_pieces::{Piece, Sink, push_pieces, put_all};
 /// ring, then of the parcels' files and rings, then the first bad line of the clerks' files;
 /// [`ToolFault::NoWindow`] and [`ToolFault::NoMemory`]; all before anything is written.
 /// [`ToolFault::Output`] where a write failed.
-pub fn check<'h, R: Threads + Wait + Sync, H: Allocator + Send + Sync, A: Allocator, W: ByteOut>(
+pub fn check<
+    'h,
+    R: Threads + Wait + Sync,
+    H: Allocator + Send + Sync,
+    A: Allocator + Sync,
+    W: ByteOut,
+>(
     rt: &R,
     workers: usize,
     heap: &'h H,
@@ -51,6 +62,9 @@ pub fn check<'h, R: Threads + Wait + Sync, H: Allocator + Send + Sync, A: Alloca
         ⊎ (IsWant (length files.now.clerks.items) fault × (out.new ≡ out.old)) ⊎ (fault ≡ ToolFault.Output)) }
     ensures refuses { (fault : ToolFaultValue) → IsRunFault (parcel_run_of files.now) fault
         → IsErrAnd result (λ told. (told ≡ fault) ⊎ (told ≡ ToolFault.NoMemory)) }
+    // Too many clerks' files are told before any memory is asked for, and nothing is written.
+    ensures many { MOST_PLACES < length files.now.clerks.items
+        → IsErrOf result (ToolFault.ClerkCount (length files.now.clerks.items)) × (out.new ≡ out.old) }
 
     // Only a writer that failed in this call ends the output early.
     ensures output { IsErrOf result ToolFault.Output
@@ -58,7 +72,7 @@ pub fn check<'h, R: Threads + Wait + Sync, H: Allocator + Send + Sync, A: Alloca
     ensures failed { IsErrOf result ToolFault.Output → W.failure_count out.new ≡ raised (W.failure_count out.old) }
     ensures no_failure { OnOk result (W.failure_count out.new ≡ W.failure_count out.old) }
 {
-    let inputs = load_inputs(rt, workers, heap, files)?;
+    let inputs = load_inputs(rt, workers, heap, files, None)?;
     a_layer_file_is_within_the_limits();
     let text = checked_text(rt, heap, inputs)?;
     put_all(text.as_slice(), out)?;
@@ -98,6 +112,9 @@ pub fn check_all<
         ⊎ (fault ≡ ToolFault.Output)) }
     ensures refuses { (fault : ToolFaultValue) → IsRunFault (parcel_run_of files.now) fault
         → IsErrAnd result (λ told. (told ≡ fault) ⊎ (told ≡ ToolFault.NoMemory) ⊎ (told ≡ ToolFault.Output)) }
+    // Too many clerks' files are told before any memory is asked for, and nothing is written.
+    ensures many { MOST_PLACES < length files.now.clerks.items
+        → IsErrOf result (ToolFault.ClerkCount (length files.now.clerks.items)) × (out.new ≡ out.old) }
 
     // Only a writer that failed in this call ends the output early, that of the lines too.
     ensures output { IsErrOf result ToolFault.Output
@@ -114,10 +131,24 @@ pub fn check_all<
             Ok(())
         }
         Err(refusal) => {
-            put_all(refusal.lines(), out)?;
+            put_lines(refusal.lines(), out)?;
             Err(refusal.fault)
         }
     }
+}
+
+/// Puts lines. Where there are none, the writer is not called, and so cannot fail.
+fn put_lines<W: ByteOut>(lines: &[u8], out: &mut W) -> Result<(), Failed>
+    ensures ok { OnOk result (Appends (W.written out.old) (W.written out.new) lines.now) }
+    ensures err { OnErr result (AppendsBeginning (W.written out.old) (W.written out.new) lines.now) }
+    ensures failed { OnErr result (W.failure_count out.new ≡ raised (W.failure_count out.old)) }
+    ensures no_failure { OnOk result (W.failure_count out.new ≡ W.failure_count out.old) }
+    ensures none { lines.now ≡ [] → IsOk result × (out.new ≡ out.old) }
+{
+    if lines.is_empty() {
+        return Ok(());
+    }
+    put_all(lines, out)
 }
 
 /// The lines of a check that finds a tiling: those of the clerks' edits, which are made, and that of the tiling.
@@ -133,33 +164,9 @@ fn checked_text<'h, R: Threads + Wait + Sync, H: Allocator + Send + Sync>(
         × (text.items ≡ told ++ tiling_line after.now.rows inputs.entry.layer.city)) }
     ensures fault { IfErr result (IsWant (length inputs.entry.clerks.items)) }
 {
-    let outcome = edit_layer(rt, heap, inputs, &[])?;
-    let count = outcome.parcels.count();
-    let area2 = outcome.parcels.city_area2();
-    let mut lines = outcome.into_lines();
-    push_tiling(&mut lines, count, area2)?;
-    Ok(lines)
-}
-
-/// Adds the line of a tiling: the number of parcels, and twice the city's area.
-///
-/// # Errors
-///
-/// The sink's fault; a beginning of the piece may have been taken then.
-pub(crate) fn push_tiling<S: Sink>(text: &mut S, count: usize, area2: u128) -> Result<(), S::Fault>
-    ensures ok { OnOk result (S.takes text.old
-        (codes "tiling " ++ decimal count ++ codes " " ++ decimal area2 ++ codes "\n") text.new) }
-    ensures err { OnErr result (S.breaks_off text.old
-        (codes "tiling " ++ decimal count ++ codes " " ++ decimal area2 ++ codes "\n") text.new) }
-{
-    push_pieces(
-        text,
-        &[
-            Piece::Text("tiling "),
-            Piece::Number(count as u64),
-            Piece::Text(" "),
-            Piece::Area(area2),
-            Piece::EndOfLine,
-        ],
-    )
+    let RunInputs { layer, clerks, .. } = inputs;
+    let Edited { sheet, lines, .. } = edit_layer(rt, heap, layer, clerks, &[])?;
+    let mut text = lines;
+    push_sheet_tiling(&mut text, sheet)?;
+    Ok(text)
 }

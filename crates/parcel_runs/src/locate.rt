@@ -1,6 +1,7 @@
 //! Where points lie among parcels.
 
-ghost use Rattle.std.specs.Prelude.{◌≡◌, ◌⊎◌, ◌≤◌, ◌++◌, ℕ, List, length, IfOk, IfErr, IsErrAnd, IsErrOf, OnOk, codes};
+ghost use Rattle.std.specs.Prelude.{◌≡◌, ◌⊎◌, ◌<◌, ◌≤◌, ◌++◌, ℕ, List, length, codes};
+ghost use Rattle.std.specs.Prelude.{IfOk, IfErr, IsErrAnd, IsErrOf, OnOk};
 ghost use Rattle.std.specs.Borrow.{Bor};
 ghost use Rattle.geo_exact.specs.Bytes.{raised};
 ghost use Rattle.city_layers.specs.declared.fault.ToolFault.{ToolFault as ToolFaultValue};
@@ -15,11 +16,11 @@ ghost use Rattle.parcel_runs.specs.RunFaults.{IsRunFault, IsWant};
 ghost use Rattle.parcel_runs.specs.own.PlaceTexts.{places_text};
 ghost use Rattle.desk_lock.specs.declared.opening.TheConstants.{MOST_PLACES};
 
+use crate::edited::edit_layer;
 use crate::inputs::{RunInputs, load_inputs};
-use crate::outcome::edit_layer;
 use crate::run_files::RunFiles;
 use city_layers::ToolFault;
-use clerk_runs::push_place;
+use clerk_runs::{Edited, push_place};
 use fabric_core::At;
 use geo_exact::{ByteOut, Corner};
 use line_files::{PointsFault, read_points};
@@ -40,7 +41,13 @@ use text_pieces::{push_corner, put_all};
 /// ring, then of the parcels' files and rings, then the first bad line of the clerks' files;
 /// [`ToolFault::NoWindow`] and [`ToolFault::NoMemory`]; all before anything is written.
 /// [`ToolFault::Output`] where a write failed.
-pub fn locate<'h, R: Threads + Wait + Sync, H: Allocator + Send + Sync, A: Allocator, W: ByteOut>(
+pub fn locate<
+    'h,
+    R: Threads + Wait + Sync,
+    H: Allocator + Send + Sync,
+    A: Allocator + Sync,
+    W: ByteOut,
+>(
     rt: &R,
     workers: usize,
     heap: &'h H,
@@ -55,6 +62,9 @@ pub fn locate<'h, R: Threads + Wait + Sync, H: Allocator + Send + Sync, A: Alloc
         ⊎ (IsWant (length files.now.clerks.items) fault × (out.new ≡ out.old)) ⊎ (fault ≡ ToolFault.Output)) }
     ensures refuses { (fault : ToolFaultValue) → IsRunFault (parcel_run_of files.now) fault
         → IsErrAnd result (λ told. (told ≡ fault) ⊎ (told ≡ ToolFault.NoMemory)) }
+    // Too many clerks' files are told before any memory is asked for, and nothing is written.
+    ensures many { MOST_PLACES < length files.now.clerks.items
+        → IsErrOf result (ToolFault.ClerkCount (length files.now.clerks.items)) × (out.new ≡ out.old) }
 
     // Only a writer that failed in this call ends the output early.
     ensures output { IsErrOf result ToolFault.Output
@@ -62,7 +72,7 @@ pub fn locate<'h, R: Threads + Wait + Sync, H: Allocator + Send + Sync, A: Alloc
     ensures failed { IsErrOf result ToolFault.Output → W.failure_count out.new ≡ raised (W.failure_count out.old) }
     ensures no_failure { OnOk result (W.failure_count out.new ≡ W.failure_count out.old) }
 {
-    let inputs = load_inputs(rt, workers, heap, files)?;
+    let inputs = load_inputs(rt, workers, heap, files, None)?;
     let lines = located_text(rt, heap, inputs, points)?;
     put_all(lines.as_slice(), out)?;
     Ok(())
@@ -79,7 +89,7 @@ pub fn locate_text<
     'h,
     R: Threads + Wait + Sync,
     H: Allocator + Send + Sync,
-    A: Allocator,
+    A: Allocator + Sync,
     W: ByteOut,
 >(
     rt: &R,
@@ -96,6 +106,9 @@ pub fn locate_text<
         ⊎ (IsWant (length files.now.clerks.items) fault × (out.new ≡ out.old)) ⊎ (fault ≡ ToolFault.Output)) }
     ensures refuses { (fault : ToolFaultValue) → IsLocateFault (parcel_run_of files.now) text.now fault
         → IsErrAnd result (λ told. (told ≡ fault) ⊎ (told ≡ ToolFault.NoMemory)) }
+    // Too many clerks' files are told before any memory is asked for, and nothing is written.
+    ensures many { MOST_PLACES < length files.now.clerks.items
+        → IsErrOf result (ToolFault.ClerkCount (length files.now.clerks.items)) × (out.new ≡ out.old) }
 
     // Only a writer that failed in this call ends the output early.
     ensures output { IsErrOf result ToolFault.Output
@@ -103,7 +116,7 @@ pub fn locate_text<
     ensures failed { IsErrOf result ToolFault.Output → W.failure_count out.new ≡ raised (W.failure_count out.old) }
     ensures no_failure { OnOk result (W.failure_count out.new ≡ W.failure_count out.old) }
 {
-    let inputs = load_inputs(rt, workers, heap, files)?;
+    let inputs = load_inputs(rt, workers, heap, files, None)?;
     let points = points_of_text(heap, text)?;
     let lines = located_text(rt, heap, inputs, &points)?;
     put_all(lines.as_slice(), out)?;
@@ -139,14 +152,15 @@ fn located_text<'h, R: Threads + Wait + Sync, H: Allocator + Send + Sync>(
         × ArePlaceLines after.now.rows points.now lines × (text.items ≡ told ++ lines)) }
     ensures fault { IfErr result (IsWant (length inputs.entry.clerks.items)) }
 {
-    let outcome = edit_layer(rt, heap, inputs, points)?;
-    let (mut lines, places) = outcome.into_places();
-    push_place_lines(&mut lines, points, &places)?;
-    Ok(lines)
+    let RunInputs { layer, clerks, .. } = inputs;
+    let Edited { lines, places, .. } = edit_layer(rt, heap, layer, clerks, points)?;
+    let mut text = lines;
+    push_point_lines(&mut text, points, &places)?;
+    Ok(text)
 }
 
 /// Adds the lines of points, of which it is known where each lies.
-fn push_place_lines<A: Allocator, B: Allocator>(
+fn push_point_lines<A: Allocator, B: Allocator>(
     text: &mut Vec<u8, A>,
     points: &[Corner],
     places: &[At<B>],
@@ -155,13 +169,13 @@ fn push_place_lines<A: Allocator, B: Allocator>(
     ensures { OnOk result (text.new.items ≡ text.old.items ++ places_text points.now places.now) }
 {
     for (k, point) in points.iter().enumerate() {
-        push_place_line(text, *point, &places[k])?;
+        push_point_line(text, *point, &places[k])?;
     }
     Ok(())
 }
 
 /// Adds the line of a point: its coordinates, and where it lies.
-fn push_place_line<A: Allocator, B: Allocator>(
+fn push_point_line<A: Allocator, B: Allocator>(
     lines: &mut Vec<u8, A>,
     point: Corner,
     at: &At<B>,

@@ -4,22 +4,19 @@ ghost use Rattle.std.specs.Prelude.{◌≡◌, ◌⊎◌, ◌<◌, ◌≤◌, le
 ghost use Rattle.std.specs.Borrow.{Bor};
 ghost use Rattle.geo_exact.specs.Bytes.{raised};
 ghost use Rattle.overlay_work.specs.declared.round.TheConstants.{MOST_HANDS};
+ghost use Rattle.desk_lock.specs.declared.opening.TheConstants.{MOST_PLACES};
 ghost use Rattle.city_layers.specs.declared.fault.ToolFault.{ToolFault as ToolFaultValue};
 ghost use Rattle.parcel_runs.specs.RunFiles.{parcel_run_of};
 ghost use Rattle.parcel_runs.specs.OverlayReport.{WritesOverlay, BeginsOverlay, IsOverlayFault, IsOverlayWant};
 ghost use Rattle.city_layers.specs.TilingFiles.{files_of};
-ghost use Rattle.clerk_runs.specs.ClerkRuns.{AreMade, register_of};
-ghost use Rattle.parcel_runs.specs.RunFaults.{IsWant};
 ghost use Rattle.parcel_runs.specs.own.LinesAndReports.{WritesBoth, BeginsBoth};
-ghost use Rattle.desk_lock.specs.declared.opening.TheConstants.{MOST_PLACES};
 
-use crate::inputs::RunInputs;
-use crate::outcome::edit_layer;
-use crate::overlay_inputs::{OverlayInputs, load_overlay_inputs};
+use crate::edited::edit_layer;
+use crate::inputs::{RunInputs, load_inputs};
 use crate::overlay_job::overlay_table;
 use crate::run_files::RunFiles;
 use city_layers::{Source, ToolFault};
-use fabric_core::Sheet;
+use clerk_runs::Edited;
 use geo_exact::ByteOut;
 use overlay_work::{MOST_HANDS, Table, write_report};
 use std::alloc::Allocator;
@@ -32,8 +29,8 @@ use text_pieces::put_all;
 /// common point; `split ID` for each parcel that overlaps two zones or more; and `within ID ZONE`
 /// for each other parcel. Before that the edits of clerks' files are made at one office, each
 /// file's by a thread of its own, line by line, and a line for each is written, by clerk and line;
-/// clerk K is that of file K, from 1. So many workers share the load of the layers and then the parcels. All files are checked
-/// whole before the first edit is made.
+/// clerk K is that of file K, from 1. So many workers share the load of the layers and then the parcels. All files are
+/// checked whole before the first edit is made.
 ///
 /// # Errors
 ///
@@ -65,6 +62,9 @@ pub fn overlay<
         ⊎ (fault ≡ ToolFault.Output)) }
     ensures refuses { (fault : ToolFaultValue) → IsOverlayFault (parcel_run_of files.now) (files_of zones.now) fault
         → IsErrAnd result (λ told. (told ≡ fault) ⊎ (told ≡ ToolFault.NoMemory)) }
+    // Too many clerks' files are told before any memory is asked for, and nothing is written.
+    ensures many { MOST_PLACES < length files.now.clerks.items
+        → IsErrOf result (ToolFault.ClerkCount (length files.now.clerks.items)) × (out.new ≡ out.old) }
 
     // Only a writer that failed in this call ends the output early.
     ensures output { IsErrOf result ToolFault.Output
@@ -72,32 +72,15 @@ pub fn overlay<
     ensures failed { IsErrOf result ToolFault.Output → W.failure_count out.new ≡ raised (W.failure_count out.old) }
     ensures no_failure { OnOk result (W.failure_count out.new ≡ W.failure_count out.old) }
 {
-    let OverlayInputs { run, zones } = load_overlay_inputs(rt, workers, heap, files, zones)?;
-    let (sheet, lines) = edited_sheet(rt, heap, run)?;
+    let RunInputs {
+        layer,
+        clerks,
+        zones,
+    } = load_inputs(rt, workers, heap, files, Some(zones))?;
+    let Some(zones) = zones else { unreachable!() };
+    let Edited { sheet, lines, .. } = edit_layer(rt, heap, layer, clerks, &[])?;
     let table = overlay_table(rt, heap, &sheet, &zones, workers)?;
     write_both(lines.as_slice(), &table, out)
-}
-
-/// A sheet of the parcels after the edits of clerks, which are made, and the lines that report each edit.
-///
-/// # Errors
-///
-/// [`ToolFault::NoWindow`] and [`ToolFault::NoMemory`].
-pub fn edited_sheet<'h, R: Threads + Wait + Sync, H: Allocator + Send + Sync>(
-    rt: &R,
-    heap: &'h H,
-    inputs: RunInputs<'h, H>,
-) -> Result<(Sheet<'h, H>, Vec<u8, &'h H>), ToolFault<'static>>
-    requires { length inputs.clerks.items ≤ MOST_PLACES }
-    ensures made { IfOk result (λ made.
-        AreMade inputs.entry.layer inputs.entry.clerks.items (register_of made.0) made.1.items) }
-    ensures city { IfOk result (λ made. made.0.city ≡ inputs.entry.layer.city) }
-    ensures fault { IfErr result (IsWant (length inputs.entry.clerks.items)) }
-{
-    let outcome = edit_layer(rt, heap, inputs, &[])?;
-    let (parcels, lines) = outcome.into_parcels();
-    let sheet = parcels.into_sheet()?;
-    Ok((sheet, lines))
 }
 
 /// Writes lines, and then the report of a table.

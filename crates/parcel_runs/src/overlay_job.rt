@@ -3,8 +3,6 @@
 ghost use Rattle.std.specs.Prelude.{◌≡◌, ◌⊎◌, ℕ, ◌<◌, ◌≤◌, length, IfOk, IfErr};
 ghost use Rattle.std.specs.List.{AllByRecursion};
 ghost use Rattle.overlay_work.specs.Rounds.{AreHandsOf};
-ghost use Rattle.overlay_work.specs.declared.round.RoundFault.TheVariants.{NoMemory as RoundMemory};
-ghost use Rattle.overlay_work.specs.declared.close.CloseFault.TheVariants.{NoThread, NoMemory as CloseMemory};
 ghost use Rattle.overlay_work.specs.declared.round.TheConstants.{MOST_HANDS};
 ghost use Rattle.zone_tables.specs.Overlap.{IsOverlapTable};
 ghost use Rattle.parcel_runs.specs.OverlayReport.{IsOverlayWant};
@@ -44,7 +42,14 @@ pub fn overlay_table<'t, 'h, R: Threads + Wait + Sync, H: Allocator + Send + Syn
     let (round, hands) = begin(heap, sheet, zones, workers)?;
     match run_round(rt, round, hands, &OpenGate) {
         Ok(table) => Ok(table),
-        Err(back) => Err(fault_of_close(back.fault)),
+        Err(back) => match back.fault {
+            CloseFault::NoThread(hand) => Err(ToolFault::NoThread(hand)),
+            CloseFault::NoMemory => Err(ToolFault::NoMemory),
+            // All hands were handed in, and each that works comes to its end or wants memory.
+            CloseFault::HandsMissing(_, _) | CloseFault::Holding(_) | CloseFault::NotDone => {
+                unreachable!()
+            }
+        },
     }
 }
 
@@ -69,36 +74,12 @@ fn begin<'t, 'h, H: Allocator>(
     let lists = deal(heap, sheet.ids(), workers)?;
     match Round::new(heap, sheet, zones, lists) {
         Ok(begun) => Ok(begun),
-        Err(fault) => Err(fault_of_round(fault)),
-    }
-}
-
-/// The user-facing error for a round that could not start.
-fn fault_of_round(fault: RoundFault) -> ToolFault<'static>
-    requires { fault ≡ RoundMemory }
-    ensures { result ≡ ToolFault.NoMemory }
-{
-    match fault {
-        RoundFault::NoMemory => ToolFault::NoMemory,
-        // The lists share the sheet's ids, there are as many as hands may be, and both layers tile one city.
-        RoundFault::HandCount(_) | RoundFault::OtherCity | RoundFault::NotASharing(_) => {
-            unreachable!()
-        }
-    }
-}
-
-/// The user-facing error for a round that gave no table, though all its hands were handed in.
-fn fault_of_close(fault: CloseFault) -> ToolFault<'static>
-    requires { (fault ≡ CloseMemory) ⊎ ((hand : ℕ) × (fault ≡ NoThread hand)) }
-    ensures { ((fault ≡ CloseMemory) × (result ≡ ToolFault.NoMemory))
-        ⊎ ((hand : ℕ) × (fault ≡ NoThread hand) × (result ≡ ToolFault.NoThread hand)) }
-{
-    match fault {
-        CloseFault::NoThread(hand) => ToolFault::NoThread(hand),
-        CloseFault::NoMemory => ToolFault::NoMemory,
-        // All hands were handed in, and each that works comes to its end or wants memory.
-        CloseFault::HandsMissing(_, _) | CloseFault::Holding(_) | CloseFault::NotDone => {
-            unreachable!()
-        }
+        Err(fault) => match fault {
+            RoundFault::NoMemory => Err(ToolFault::NoMemory),
+            // The lists share the sheet's ids, there are as many as hands may be, and both layers tile one city.
+            RoundFault::HandCount(_) | RoundFault::OtherCity | RoundFault::NotASharing(_) => {
+                unreachable!()
+            }
+        },
     }
 }

@@ -14,7 +14,7 @@ ghost use Rattle.city_layers.specs.TilingFiles.{files_of, IsTilesFault};
 ghost use Rattle.parcel_runs.specs.PartReport.{part_line, IsPart, IsPartFault, AreAllParts};
 ghost use Rattle.parcel_runs.specs.own.WrittenParts.{IsWrittenPart};
 
-use crate::export::ring_to_write;
+use crate::export::{Exported, ring_to_write};
 use city_layers::{Source, ToolFault, load_tiles_by};
 use fabric_core::Shapes;
 use geo_exact::{Unit, area2};
@@ -23,19 +23,6 @@ use shp_files::write_layer;
 use std::alloc::{AllocError, Allocator};
 use std::thread::Threads;
 use text_pieces::push_number;
-
-/// What is written of one parcel, and what is printed.
-#[derive(Drop)]
-pub struct WrittenPart<A: Allocator> {
-    /// The parcel's number.
-    pub id: u64,
-    /// The bytes of the main file.
-    pub main: Vec<u8, A>,
-    /// The bytes of the index file.
-    pub index: Vec<u8, A>,
-    /// The text that is printed: `part ID AREA2`, the parcel's number and twice its area in square millimetres.
-    pub line: Vec<u8, A>,
-}
 
 /// The two files of one of the districts that tile their city exactly: a layer of one polygon, the
 /// ring of the record of this number with all corners of the layer and the city that lie inside its
@@ -56,10 +43,9 @@ pub fn part<'h, R: Threads + Sync, H: Allocator + Send + Sync, A: Allocator>(
     districts: &Source<A>,
     unit: Unit,
     id: u64,
-) -> Result<WrittenPart<&'h H>, ToolFault<'static>>
-    ensures number { IfOk result (λ part. part.id ≡ id) }
+) -> Result<Exported<&'h H>, ToolFault<'static>>
     ensures ok { IfOk result (λ part.
-        IsPart (files_of city.now) (files_of districts.now) unit id part.main.items part.index.items part.line.items) }
+        IsPart (files_of city.now) (files_of districts.now) unit id part.main.items part.index.items part.lines.items) }
     ensures fault { IfErr result (λ fault.
         IsPartFault (files_of city.now) (files_of districts.now) unit id fault ⊎ (fault ≡ ToolFault.NoMemory)) }
     ensures refuses { (fault : ToolFaultValue) → IsPartFault (files_of city.now) (files_of districts.now) unit id fault
@@ -74,7 +60,7 @@ pub fn part<'h, R: Threads + Sync, H: Allocator + Send + Sync, A: Allocator>(
 }
 
 /// The two files of each of the districts that tile their city exactly, by ascending number of their records: each as
-/// [`part`] gives it. The layer is loaded once.
+/// [`part`] gives it, beside the number. The layer is loaded once.
 ///
 /// # Errors
 ///
@@ -87,7 +73,7 @@ pub fn parts<'h, R: Threads + Sync, H: Allocator + Send + Sync, A: Allocator>(
     city: &Source<A>,
     districts: &Source<A>,
     unit: Unit,
-) -> Result<Vec<WrittenPart<&'h H>, &'h H>, ToolFault<'static>>
+) -> Result<Vec<(u64, Exported<&'h H>), &'h H>, ToolFault<'static>>
     ensures ok { IfOk result (λ parts. AreAllParts (files_of city.now) (files_of districts.now) unit parts.items) }
     ensures fault { IfErr result (λ fault.
         IsTilesFault (files_of city.now) (files_of districts.now) unit fault ⊎ (fault ≡ ToolFault.NoMemory)) }
@@ -104,7 +90,7 @@ pub fn parts<'h, R: Threads + Sync, H: Allocator + Send + Sync, A: Allocator>(
 fn parts_of<'h, H: Allocator>(
     heap: &'h H,
     shapes: Shapes<'_, &'h H>,
-) -> Result<Vec<WrittenPart<&'h H>, &'h H>, AllocError>
+) -> Result<Vec<(u64, Exported<&'h H>), &'h H>, AllocError>
     requires { AllByRecursion (λ shape. length shape.1.ring.corners ≤ RING_CORNERS) shapes }
     ensures { IfOk result (λ parts.
         AllZip (λ shape part. IsWrittenPart (numbered shape.0 shape.1.ring.corners) part) shapes.entry parts.items) }
@@ -112,7 +98,7 @@ fn parts_of<'h, H: Allocator>(
     let mut parts = Vec::with_capacity(heap, shapes.len())?;
     for district in shapes {
         let (id, shape) = district;
-        parts.push(part_of(heap, id, &shape.ring)?)?;
+        parts.push((id, part_of(heap, id, &shape.ring)?))?;
     }
     Ok(parts)
 }
@@ -122,25 +108,23 @@ fn part_of<'h, H: Allocator>(
     heap: &'h H,
     id: u64,
     ring: &Ring<&'h H>,
-) -> Result<WrittenPart<&'h H>, AllocError>
+) -> Result<Exported<&'h H>, AllocError>
     requires { length ring.now.corners ≤ RING_CORNERS }
-    ensures number { IfOk result (λ part. part.id ≡ id) }
     ensures main { IfOk result (λ part. part.main.items ≡ written_main (ring.now.corners ∷ [])) }
     ensures index { IfOk result (λ part. part.index.items ≡ written_index (ring.now.corners ∷ [])) }
     ensures read_back { IfOk result (λ part.
         IsLayerFile part.main.items (Some part.index.items) Mm (numbered 1 ring.now.corners ∷ [])) }
-    ensures line { IfOk result (λ part. part.line.items ≡ part_line (numbered id ring.now.corners)) }
+    ensures lines { IfOk result (λ part. part.lines.items ≡ part_line (numbered id ring.now.corners)) }
 {
     let rings = [ring_to_write(1, ring)?];
     let (main, index) = write_layer(heap, &rings)?;
-    let mut line = Vec::new(heap);
-    push_part(&mut line, id, area2(ring.corners.as_slice()).unsigned_abs())?;
-    Ok(WrittenPart {
+    let mut lines = Vec::new(heap);
+    push_part(
+        &mut lines,
         id,
-        main,
-        index,
-        line,
-    })
+        area2(ring.corners.as_slice()).unsigned_abs(),
+    )?;
+    Ok(Exported { main, index, lines })
 }
 
 /// Adds the line of a part: its number, and twice its area.

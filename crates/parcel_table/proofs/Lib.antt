@@ -4,3 +4,4 @@ pub mod Order
 pub mod Boxes
 pub mod Clones
 pub mod AllKeyed
+pub mod Crossing

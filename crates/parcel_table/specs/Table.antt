@@ -1,4 +1,5 @@
--- A table of parcels, each under a key and with an id, and what has become of the ids that were given out (this product's own).
+-- A table of parcels, each under a key and with an id, and what has become of the ids that were given out (this
+-- product's own).
 use Rattle.std.specs.Prelude.{◌≡◌, ℕ, nat_eq, not, if◌then◌else◌, List, map, Option, Some, None, slice_index_or}
 use Rattle.std.specs.List.{filter, AllZip, Contains}
 use Rattle.cell_index.specs.declared.entry.IndexEntry.{IndexEntry}
@@ -8,9 +9,9 @@ use Rattle.parcel_table.specs.declared.parcels.Parcel.{Parcel}
 use Rattle.parcel_table.specs.declared.fate.Fate.{Fate}
 use Rattle.parcel_table.specs.declared.fate.Fate.TheVariants.{Unknown, Retired, Here}
 
--- what contracts see of a table: its parcels beside their keys, by ascending id; the next id, which is above all of them; for each id below
--- it the number by which its parcel was retired, where one was; the key of the next parcel that is put in under a new key; and how many
--- more parcels go in without an allocation
+-- what contracts see of a table: its parcels beside their keys, by ascending id; the next id, which is above all of
+-- them; for each id below it the number by which its parcel was retired, where one was; the key of the next parcel that
+-- is put in under a new key; and how many more parcels go in without an allocation
 pub record Table (A : Type 0) : Type 0 where
   pub parcels : List (ℕ × Parcel A)
   pub next : ℕ
@@ -46,7 +47,8 @@ module _ {A : Type 0} where
   -- the parcels, the one with this id with this shape
   abbrev pub with_shape : ℕ → Shape A → List (ℕ × Parcel A) → List (ℕ × Parcel A)
   with_shape id shape parcels =
-      map (λ parcel. if nat_eq parcel.1.id id then (parcel.0, record { id = parcel.1.id; shape = shape }) else parcel) parcels
+      map (λ parcel. if nat_eq parcel.1.id id
+      then (parcel.0, record { id = parcel.1.id; shape = shape }) else parcel) parcels
 
   -- a copy of a parcel: its id, its ring, its triangles and its box
   pub record IsParcelClone (parcel copy : Parcel A) : Type 0 where

@@ -6,7 +6,8 @@ ghost use Rattle.std.specs.List.{Contains};
 ghost use Rattle.std.specs.List.Sorted.{IsStrictlyIncreasing};
 ghost use Rattle.cell_index.specs.Cells.{HaveOwnKeys};
 ghost use Rattle.parcel_table.specs.declared.parcels.Parcel.{Parcel as ParcelValue};
-ghost use Rattle.parcel_table.specs.Table.{HasId, IsFateOf, IsKeyOf, entries_of, ids_of, retired_by, shapes_of, with_shape, without_id};
+ghost use Rattle.parcel_table.specs.Table.{HasId, IsFateOf, IsKeyOf, entries_of, ids_of, retired_by};
+ghost use Rattle.parcel_table.specs.Table.{shapes_of, with_shape, without_id};
 
 use crate::fate::Fate;
 use crate::iter::{Ids, Shapes};
@@ -16,7 +17,8 @@ use slab::Slab;
 use std::alloc::{AllocError, Allocator};
 use std::marker::Model;
 
-/// A parcel of a layer.
+/// A parcel of a layer. It keeps its id where an edit only puts a corner into its ring or takes one out; a parcel that
+/// is split, merged or moved goes, and others come.
 #[derive(Drop)]
 pub struct Parcel<A: Allocator> {
     /// Its id.
@@ -102,7 +104,7 @@ impl<A: Allocator + Copy> Parcels<A> {
     ///
     /// # Errors
     ///
-    /// [`AllocError`] where an allocation is refused; the parcels are then as before, and the shape is dropped.
+    /// [`AllocError`] where an allocation fails; the parcels are then as before, and the shape is dropped.
     pub fn push(&mut self, id: u64, shape: Shape<A>) -> Result<usize, AllocError>
         requires { self.old.next ≤ id }
         ensures parcels { IfOk result (λ key.
@@ -137,7 +139,8 @@ impl<A: Allocator> Parcels<A> {
     pub fn push_reserved(&mut self, shape: Shape<A>) -> usize
         requires { 1 ≤ self.old.room }
         ensures key { result ≡ self.old.vacant }
-        ensures parcels { self.new.parcels ≡ self.old.parcels ++ (result, record { id = self.old.next; shape = shape }) ∷ [] }
+        ensures parcels { self.new.parcels ≡ self.old.parcels
+            ++ (result, record { id = self.old.next; shape = shape }) ∷ [] }
         ensures next { self.new.next ≡ self.old.next + 1 }
         ensures fates { self.new.fates ≡ self.old.fates ++ None ∷ [] }
         ensures room { self.new.room + 1 ≡ self.old.room }
@@ -178,7 +181,8 @@ impl<A: Allocator> Parcels<A> {
         requires here { HasId self.old.parcels id }
         requires room { 1 ≤ self.old.room }
         ensures parcels { (key : ℕ) → IsKeyOf self.old.parcels id key
-            → self.new.parcels ≡ without_id id self.old.parcels ++ (key, record { id = self.old.next; shape = shape }) ∷ [] }
+            → self.new.parcels ≡ without_id id self.old.parcels
+            ++ (key, record { id = self.old.next; shape = shape }) ∷ [] }
         ensures next { self.new.next ≡ self.old.next + 1 }
         ensures fates { self.new.fates ≡ slice_set self.old.fates id (Some by) ++ None ∷ [] }
         ensures vacant { self.new.vacant ≡ self.old.vacant }
@@ -261,7 +265,8 @@ impl<A: Allocator> Parcels<A> {
         self.slab.vacant_key()
     }
 
-    /// The parcels have keys of their own, and their ids ascend and are below the next one; none of them is retired.
+    /// Only teaches the prover: the parcels have keys of their own, and their ids ascend and are below the next one;
+    /// none of them is retired.
     pub fn use_invariant(&self)
         ensures keys { HaveOwnKeys (entries_of self.now.parcels) }
         ensures ascend { IsStrictlyIncreasing (ids_of self.now.parcels) }

@@ -1,6 +1,7 @@
 //! A parcel's place in the table.
 
-ghost use Rattle.std.specs.Prelude.{◌≡◌, ◌++◌, ◌<◌, ◌≤◌, ℕ, length, OnOk, option_copied, slice_index_or, replicate, vec_len, vec_capacity};
+ghost use Rattle.std.specs.Prelude.{◌≡◌, ◌++◌, ◌<◌, ◌≤◌, ℕ, length, OnOk, option_copied, slice_index_or};
+ghost use Rattle.std.specs.Prelude.{replicate, vec_len, vec_capacity};
 ghost use Rattle.parcel_table.specs.own.Places.{parcel_at};
 
 use crate::parcels::Parcel;

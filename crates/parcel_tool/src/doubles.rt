@@ -2,15 +2,17 @@
 
 use std::alloc::{AllocError, Global};
 
-/// Bits of a fraction that are kept: those of each double that is no whole number and off the grid.
+/// Bits of a fraction that are kept: those of each double that is no whole number and off the grid. In metres such a
+/// double is above 1/1024 mm, so from 2 ^ -20 on, and its last bit stands 52 places behind its first.
 const FRACTION_BITS: u64 = 72;
 
 /// What stands for 1 among these fractions.
 const ONE: u128 = 1 << 72;
 
-/// The bits of 180 and of 90.
+/// The bits of 180, in degrees. Doubles without a sign are in order as their bits are, as numbers.
 const HALF_TURN: u64 = 0x4066_8000_0000_0000;
 
+/// The bits of 90.
 const QUARTER_TURN: u64 = 0x4056_8000_0000_0000;
 
 /// The bits of the double at a byte, its least significant byte first.
@@ -46,7 +48,7 @@ pub(crate) fn big_at(file: &[u8], at: usize) -> Option<u32> {
     Some(number)
 }
 
-/// Whether a double can be a longitude or a latitude, in degrees.
+/// Whether a double can be a longitude, in degrees.
 pub(crate) fn is_longitude(bits: u64) -> bool {
     bits & 0x7FFF_FFFF_FFFF_FFFF <= HALF_TURN
 }

@@ -26,8 +26,8 @@ impl From<Failed> for ExplainFault {
     }
 }
 
-/// Prints what a code means, what usually causes it, and what to do; of several that begin with these words, as `F9`, each;
-/// without words a line for every code.
+/// Prints what a code means, what usually causes it, and what to do; of several that begin with these words, as `F9`,
+/// each; without words a line for every code.
 pub(crate) fn explain<W: ByteOut>(
     alloc: Global,
     words: &[&str],

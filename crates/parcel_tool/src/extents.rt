@@ -2,14 +2,17 @@
 
 use crate::doubles::{big_at, double_at, is_latitude, is_longitude, little_at};
 
-/// Bytes of a main file's header, of a record's header, and of what stands before the points of a polygon of one part.
+/// Bytes of a main file's header.
 const HEADER: usize = 100;
 
+/// Bytes of a record's header: its number and its length.
 const RECORD_HEADER: usize = 8;
 
+/// Bytes before the points of a polygon of one part: 4 of the type, 32 of the box, and 4 each of the numbers of parts
+/// and of points and of where the part begins.
 const BEFORE_POINTS: usize = 48;
 
-/// The most records that are looked at.
+/// The most records that are looked at: a layer has no more.
 const RECORDS: usize = 65_536;
 
 /// Whether all points of a main file can be in degrees, and there are some: each x from -180 to 180, each y from -90
@@ -49,6 +52,7 @@ fn are_degrees(content: &[u8]) -> bool {
         return true;
     };
     let mut rest = points;
+    // A point has two doubles.
     for _ in 0..points.len() / 16 {
         let (Some(x), Some(y)) = (double_at(rest, 0), double_at(rest, 8)) else {
             return true;

@@ -41,10 +41,10 @@ use clap::error::ErrorKind;
 use geo_exact::{ByteOut, Counted, Unit};
 use overlay_work::MOST_HANDS;
 use parcel_runs::check::{check, check_all};
-use parcel_runs::export::export;
+use parcel_runs::export::{Exported, export};
 use parcel_runs::locate::{locate, locate_text};
 use parcel_runs::overlay::overlay;
-use parcel_runs::part::{WrittenPart, part, parts};
+use parcel_runs::part::{part, parts};
 use parcel_runs::{RunFiles, refuse_many_clerks};
 use register_sessions::{Exports, Machine, Pipes, Plan, StartFault, serve_session};
 use std::alloc::Global;
@@ -393,7 +393,7 @@ fn answer_part<'a, R: Files + Threads + Sync + AllocGlobal, W: ByteOut>(
     let workers = worker_count(rt, asked.workers);
     let done = part(rt, workers, &heap, &city, &districts, asked.unit, id)?;
     write_layer(rt, heap, base, force, (&done.main, &done.index))?;
-    match put_all(&done.line, out) {
+    match put_all(&done.lines, out) {
         Ok(()) => Ok(()),
         Err(failed) => Err(Ended::Fault(ToolFault::from(failed))),
     }
@@ -413,11 +413,11 @@ fn answer_all_parts<'a, R: Files + Print + Eprint + Threads + Sync + AllocGlobal
         Ok(parts) => parts,
         Err(fault) => return end_run(rt, request, &Ended::Fault(fault), hints),
     };
-    for part in parts.as_slice() {
-        if let Err(status) = write_part(rt, request, part, hints) {
+    for (id, part) in parts.as_slice() {
+        if let Err(status) = write_part(rt, request, *id, part, hints) {
             return status;
         }
-        if put_all(&part.line, &mut out).is_err() {
+        if put_all(&part.lines, &mut out).is_err() {
             return end_run(rt, request, &Ended::Fault(ToolFault::Output), hints);
         }
     }
@@ -429,7 +429,7 @@ fn all_parts<'a, 'h, R: Files + Threads + Sync + AllocGlobal>(
     rt: &R,
     heap: &'h Global,
     asked: &Districts<'a>,
-) -> Result<Vec<WrittenPart<&'h Global>, &'h Global>, ToolFault<'a>> {
+) -> Result<Vec<(u64, Exported<&'h Global>), &'h Global>, ToolFault<'a>> {
     let city = read_source(&Disk(rt), *heap, asked.city)?;
     let districts = read_source(&Disk(rt), *heap, asked.districts)?;
     let workers = worker_count(rt, asked.workers);
@@ -441,14 +441,14 @@ fn all_parts<'a, 'h, R: Files + Threads + Sync + AllocGlobal>(
 fn write_part<'h, R: Files + Eprint + AllocGlobal>(
     rt: &R,
     request: &Request<'_>,
-    part: &WrittenPart<&'h Global>,
+    id: u64,
+    part: &Exported<&'h Global>,
     hints: bool,
 ) -> Result<(), ExitCode> {
     let heap = rt.alloc();
     let Request::Part { base, force, .. } = request else {
         return Ok(());
     };
-    let id = part.id;
     let Ok(path) = format!(in heap; "{base}-{id}") else {
         let _ = eprintln!(rt; "error: no memory district {id}");
         return Err(ExitCode::from(FAULT));

@@ -64,6 +64,7 @@ struct SquareMetres(u128);
 
 impl fmt::Display for SquareMetres {
     fn fmt<W: fmt::Write>(&self, f: &mut fmt::Formatter<W>) -> fmt::Result {
+        // Twice a square metre has 2,000,000 square millimetres; five times the rest are ten millionths of one.
         let (whole, rest) = (self.0 / 2_000_000, self.0 % 2_000_000 * 5);
         write!(f, "{whole}.{rest:07}")
     }

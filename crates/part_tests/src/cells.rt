@@ -8,7 +8,7 @@ use std::alloc::{AllocError, Allocator};
 use std::test::Fail;
 use test_builders::{Place, corner};
 
-/// No call here has so many growths.
+/// No call here makes so many allocations.
 const MOST: u64 = 100;
 
 /// The area.
@@ -259,7 +259,7 @@ fn what_is_changed_and_copied(rt: HostRuntime) -> Result<(), Fail> {
 }
 
 #[test]
-fn each_growth_of_a_change_refused(rt: HostRuntime) -> Result<(), Fail> {
+fn each_allocation_of_a_change_refused(rt: HostRuntime) -> Result<(), Fail> {
     let heap = Refusing::new(rt.alloc(), 0);
     let [first, _, third] = PARCELS;
     let mut refused = 0;
@@ -283,7 +283,7 @@ fn each_growth_of_a_change_refused(rt: HostRuntime) -> Result<(), Fail> {
 }
 
 #[test]
-fn each_growth_of_a_copy_refused(rt: HostRuntime) -> Result<(), Fail> {
+fn each_allocation_of_a_copy_refused(rt: HostRuntime) -> Result<(), Fail> {
     let heap = Refusing::new(rt.alloc(), 0);
     let mut index = filled(&heap)?;
     index.change(&[], &COMING)?;
@@ -304,7 +304,7 @@ fn each_growth_of_a_copy_refused(rt: HostRuntime) -> Result<(), Fail> {
 }
 
 #[test]
-fn each_growth_refused(rt: HostRuntime) -> Result<(), Fail> {
+fn each_allocation_refused(rt: HostRuntime) -> Result<(), Fail> {
     let heap = Refusing::new(rt.alloc(), 0);
     let mut refused = 0;
     for number in 1..MOST {

@@ -7,7 +7,7 @@ use std::alloc::{AllocError, Allocator, Global};
 use std::test::Fail;
 use test_builders::{rectangle, ring_of, shape_of};
 
-/// No call here has so many growths.
+/// No call here makes so many allocations.
 const MOST: u64 = 100;
 
 /// A parcel's id, and the x at which its strip begins.
@@ -212,7 +212,7 @@ fn grow<A: Allocator + Copy>(parcels: &mut Parcels<A>, shape: Shape<A>) -> Resul
     Ok(())
 }
 
-/// Whether the growth of this number was refused; the parcels are then as before.
+/// Whether the allocation of this number was refused; the parcels are then as before.
 fn refuses(heap: &Refusing<Global>, number: u64) -> Result<bool, Fail> {
     let mut parcels = filled(heap)?;
     let shape = strip(heap, 90)?;
@@ -227,7 +227,7 @@ fn refuses(heap: &Refusing<Global>, number: u64) -> Result<bool, Fail> {
 }
 
 #[test]
-fn each_growth_refused(rt: HostRuntime) -> Result<(), Fail> {
+fn each_allocation_refused(rt: HostRuntime) -> Result<(), Fail> {
     let heap = Refusing::new(rt.alloc(), 0);
     let mut refused = 0;
     for number in 1..MOST {

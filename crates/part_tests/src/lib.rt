@@ -1,5 +1,5 @@
 //! Tests of what a fabric is made of: the index of boxes by cells, the table of parcels, and what
-//! each edit makes of rings. Worked examples, each refusal, and growths that are refused.
+//! each edit makes of rings. Worked examples, each refusal, and allocations that are refused.
 #![tactic(auto)]
 
 #[cfg(test)]

@@ -1,4 +1,5 @@
-//! Each growth of an edit refused in turn: its answer is want of memory, and with memory the same call gives its rings.
+//! Each allocation of an edit refused in turn: its answer is want of memory, and with
+//! memory the same call gives its rings.
 
 use refusing_alloc::Refusing;
 use ring_edits::{Edit, EditFault, insert, merge, put_into, shift, split, straighten, take_out};
@@ -6,7 +7,7 @@ use std::alloc::{Allocator, Global};
 use std::test::Fail;
 use test_builders::{Place, corner, corners, simple_ring};
 
-/// No call here has so many growths.
+/// No call here makes so many allocations.
 const MOST: u64 = 100;
 
 const WEST: [Place; 4] = [(0, 0), (60, 0), (60, 100), (0, 100)];
@@ -20,7 +21,7 @@ const PATH: [Place; 3] = [(60, 0), (40, 50), (60, 100)];
 /// The heap of the tests here.
 type Heap = Refusing<Global>;
 
-/// Whether a growth was refused. The answer has to be want of memory exactly then, and else no fault.
+/// Whether an allocation was refused. The answer has to be want of memory exactly then, and else no fault.
 fn told(is_refused: bool, fault: Option<EditFault>) -> Result<bool, Fail> {
     match (is_refused, fault) {
         (true, Some(EditFault::NoMemory)) => Ok(true),
@@ -29,7 +30,7 @@ fn told(is_refused: bool, fault: Option<EditFault>) -> Result<bool, Fail> {
     }
 }
 
-/// What a call with growth `number` refused is answered: whether that growth was made.
+/// What a call with allocation `number` refused is answered: whether that allocation was made.
 #[derive(Clone, Copy)]
 enum Call {
     Split,
@@ -132,33 +133,33 @@ fn is_refused(heap: &Heap, call: Call, number: u64) -> Result<bool, Fail> {
     }
 }
 
-/// How many growths a call makes.
-fn growths(heap: &Heap, call: Call) -> Result<u64, Fail> {
+/// How many allocations a call makes.
+fn allocations(heap: &Heap, call: Call) -> Result<u64, Fail> {
     for number in 1..MOST {
         if !is_refused(heap, call, number)? {
             return Ok(number - 1);
         }
     }
-    Err(Fail::new("each growth was refused"))
+    Err(Fail::new("each allocation was refused"))
 }
 
 #[test]
-fn each_growth(rt: HostRuntime) -> Result<(), Fail> {
+fn each_allocation(rt: HostRuntime) -> Result<(), Fail> {
     let heap = Refusing::new(rt.alloc(), 0);
-    assert!(rt; growths(&heap, Call::Split)? >= 3);
-    assert!(rt; growths(&heap, Call::Merge)? >= 1);
-    assert!(rt; growths(&heap, Call::Shift)? >= 3);
-    assert!(rt; growths(&heap, Call::Insert)? >= 1);
+    assert!(rt; allocations(&heap, Call::Split)? >= 3);
+    assert!(rt; allocations(&heap, Call::Merge)? >= 1);
+    assert!(rt; allocations(&heap, Call::Shift)? >= 3);
+    assert!(rt; allocations(&heap, Call::Insert)? >= 1);
     // room for the whole ring is made at once
-    assert_eq!(rt; growths(&heap, Call::PutInto)?, 1);
-    assert!(rt; growths(&heap, Call::Straighten)? >= 1);
-    assert_eq!(rt; growths(&heap, Call::TakeOut)?, 1);
+    assert_eq!(rt; allocations(&heap, Call::PutInto)?, 1);
+    assert!(rt; allocations(&heap, Call::Straighten)? >= 1);
+    assert_eq!(rt; allocations(&heap, Call::TakeOut)?, 1);
     Ok(())
 }
 
 /// A ring without the edge, or without the corner, wants no memory.
 #[test]
-fn no_growth(rt: HostRuntime) -> Result<(), Fail> {
+fn no_allocation(rt: HostRuntime) -> Result<(), Fail> {
     let heap = Refusing::new(rt.alloc(), 0);
     let ring = corners(&heap, &WEST)?;
     let (from, off, at) = (corner((0, 0))?, corner((60, 100))?, corner((30, 0))?);

@@ -120,8 +120,9 @@ fn slanted(alloc: Global) -> Result<Corners<Global>, Fail> {
     Ok(list)
 }
 
-/// The leaning boxes are made after 504 slow edges. Slow edges are counted by their directions nevertheless: after 256 in
-/// one, all corners are put in order across it. That comes about in each of the five, and 93 more edges are looked up so.
+/// The leaning boxes are made after 504 slow edges. Slow edges are counted by their directions
+/// nevertheless: after 256 in one, all corners are put in order across it. That comes about in each of the
+/// five, and 93 more edges are looked up so.
 #[test]
 fn nodes_edges_in_five_directions(rt: HostRuntime) -> Result<(), Fail> {
     let ring = slanted(rt.alloc())?;

@@ -1,6 +1,7 @@
 //! Copies that readers look at while the next one is made.
 
-ghost use Rattle.std.specs.Prelude.{◌≡◌, ◌+◌, ◌<◌, ◌^◌, [], ◌∷◌, ◌++◌, length, None, IfOk, IfErr, IfSome, IfNone, OnOk, OnErr, MatchBool};
+ghost use Rattle.std.specs.Prelude.{◌≡◌, ◌+◌, ◌<◌, ◌^◌, [], ◌∷◌, ◌++◌, length, None, IfOk, IfErr, IfSome, IfNone};
+ghost use Rattle.std.specs.Prelude.{OnOk, OnErr, MatchBool};
 ghost use mathlib.Core.List.{IsPrefix};
 ghost use Rattle.published_copies.specs.own.Keeping.{waiting_list};
 
@@ -46,7 +47,7 @@ impl<F: Follows<E>, E: Drop, J: Naming, R: Wait + Drop, A: Allocator> Publisher<
     ///
     /// # Errors
     ///
-    /// [`AllocError`] where an allocation is refused.
+    /// [`AllocError`] where an allocation fails.
     pub fn open(
         rt: R,
         alloc: A,
@@ -80,7 +81,7 @@ impl<F: Follows<E>, E: Drop, J: Naming, R: Wait + Drop, A: Allocator> Publisher<
     ///
     /// # Errors
     ///
-    /// [`AllocError`] where each place for a reader is in use, or an allocation is refused.
+    /// [`AllocError`] where each place for a reader is in use, or an allocation fails.
     pub fn reader(&self) -> Result<ReadHandle<Version<F, E, J>, A>, AllocError> {
         self.copies.reader()
     }
@@ -124,8 +125,9 @@ impl<F: Follows<E>, E: Drop, J: Naming, R: Wait + Drop, A: Allocator> Publisher<
         Ok(())
     }
 
-    /// Publishes: the list that is shown then, which is that of all entries that were handed on. `None` where a copy had no memory for it: what is published stays, and the next call
-    /// goes on from there. It waits for those who read at this moment.
+    /// Publishes: the list that is shown then, which is that of all entries that were handed on. `None` where a copy
+    /// had no memory for it: what is published stays, and the next call goes on from there. It waits for those who read
+    /// at this moment.
     pub fn publish(&mut self) -> Option<Shown<E, J>>
         ensures handed { self.new.handed ≡ self.old.handed }
         ensures some { IfSome result (λ shown. (shown ≡ self.old.handed) × (self.new.shown ≡ self.old.handed)) }
@@ -141,7 +143,7 @@ impl<F: Follows<E>, E: Drop, J: Naming, R: Wait + Drop, A: Allocator> Publisher<
         Some(self.shown.again())
     }
 
-    /// What the published copy has followed begins what was handed on.
+    /// Only teaches the prover: what the published copy has followed begins what was handed on.
     pub fn use_invariant(&self)
         ensures { IsPrefix self.now.shown self.now.handed }
     {

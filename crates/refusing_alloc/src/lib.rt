@@ -1,4 +1,4 @@
-//! An allocator for tests that refuses one growth, chosen by its number, and passes each other call on.
+//! An allocator for tests that refuses one allocation, chosen by its number, and passes each other call on.
 #![tactic(auto)]
 
 use std::alloc::{AllocError, Allocator};
@@ -6,7 +6,7 @@ use std::sync::atomic::{AtomicU64, Ordering};
 
 /// Passes each call on to an inner allocator, but for one `allocate`, which it refuses.
 ///
-/// The collections of std grow by `allocate`, so a growth is one call. A reference to it is an
+/// The collections of std get memory by `allocate` alone, so each allocation is one call. A reference to it is an
 /// allocator too: a test hands out `&heap`, and so has one count for all that it calls.
 pub struct Refusing<B: Allocator> {
     inner: B,

@@ -3,12 +3,15 @@ use Rattle.std.specs.Prelude.{◌≡◌, ◌⊎◌, ℕ, ◌+◌, ◌*◌, ◌^�
 use Rattle.std.specs.Borrow.{Bor}
 use Rattle.fabric_core.specs.declared.refusal.Refusal.{Refusal}
 use Rattle.city_layers.specs.declared.fault.ToolFault.TheVariants.{NoMemory}
-use Rattle.journal_records.specs.declared.read.JournalFault.TheVariants.{NoJournal as NoJournalThere, OtherLayer as OfOtherLayer, Changed, NoMemory as NoRoom}
+use Rattle.journal_records.specs.declared.read.JournalFault.TheVariants.{NoJournal as NoJournalThere}
+use Rattle.journal_records.specs.declared.read.JournalFault.TheVariants.{OtherLayer as OfOtherLayer, Changed}
+use Rattle.journal_records.specs.declared.read.JournalFault.TheVariants.{NoMemory as NoRoom}
 use Rattle.journal_replays.specs.declared.journal_edits.ReplayFault.{ReplayFault}
 use Rattle.journal_replays.specs.declared.journal_edits.ReplayFault.TheVariants.{Journal, Refused}
 use Rattle.clerk_runs.specs.ClerkLines.{refusal_text}
 use Rattle.register_sessions.specs.declared.start_fault.StartFault.{StartFault}
-use Rattle.register_sessions.specs.declared.start_fault.StartFault.TheVariants.{Run, NoJournal, OtherLayer, JournalChanged, EditRefused}
+use Rattle.register_sessions.specs.declared.start_fault.StartFault.TheVariants.{Run, NoJournal, OtherLayer}
+use Rattle.register_sessions.specs.declared.start_fault.StartFault.TheVariants.{JournalChanged, EditRefused}
 
 module _ {A : Type 0} where
   -- the edit in this line of the file is refused for this; memory may always be wanted
@@ -20,7 +23,8 @@ module _ {A : Type 0} where
   abbrev pub IsToldRefused : Bor (List ℕ) → ℕ → Refusal → StartFault A → Type 0
   IsToldRefused path line refusal told = IsEditRefused path line refusal told ⊎ (told ≡ Run NoMemory)
 
-  -- a journal's fault is told with its path; of an edit that is refused the line is the second of its record, behind the header
+  -- a journal's fault is told with its path; of an edit that is refused the line is the
+  -- second of its record, behind the header
   abbrev pub IsToldOf : Bor (List ℕ) → ReplayFault → StartFault A → Type 0
   IsToldOf path (Journal NoJournalThere) told = told ≡ NoJournal path
   IsToldOf path (Journal OfOtherLayer) told = told ≡ OtherLayer path

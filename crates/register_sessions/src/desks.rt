@@ -29,8 +29,8 @@ pub(crate) struct Desk<'p, 'h, H: Allocator, J: Naming<H>> {
 /// What follows once a desk has served a client.
 #[derive(Drop)]
 enum After {
-    /// The next client. The pipe of the lines stays open until that one has opened it, where the client before has closed
-    /// it and all its lines were taken: else a client that comes early would have a pipe that nobody reads.
+    /// The next client. The pipe of the lines stays open until that one has opened it: else a client that comes early
+    /// would have a pipe that nobody reads.
     Client(Option<File>),
     /// No other client.
     End,
@@ -64,45 +64,67 @@ fn serve_next<'p, 'h, P: Pipes, H: Allocator, J: Naming<H>, R: Wait, K: Clocked>
         return After::End;
     }
     let paths = desk.paths;
+    // Said in the door: whoever closes the session looks at it once nobody stands there any more.
     paths.serves.store(true, Ordering::SeqCst);
-    let opened = open_both(room, pipes, paths);
-    drop(kept);
+    let opened = open_both(pipes, paths);
     room.door.pass(room.rt);
     let after = match opened {
-        Ok((reader, writer)) => serve_client(room, &mut desk.chair, reader, writer),
-        Err(error) if error.kind() == ErrorKind::OutOfMemory => After::Client(None),
+        Ok((pipe, answers)) => {
+            drop(kept);
+            serve_client(room, desk, pipe, answers)
+        }
+        Err(error) if error.kind() == ErrorKind::OutOfMemory => After::Client(kept),
         Err(_) => After::End,
     };
     paths.serves.store(false, Ordering::SeqCst);
     after
 }
 
-/// Answers a client's lines until no further one is taken. It sees the end of its answers then.
-fn serve_client<'s, 'h, H: Allocator, J: Naming<H>, R: Wait, K: Clocked>(
+/// Answers a client's lines until it has closed their pipe, or no further one is taken. It sees the end of its answers
+/// then, and not before: so whoever waits for that finds no line in the pipe but its own.
+fn serve_client<'p, 'h, H: Allocator, J: Naming<H>, R: Wait, K: Clocked>(
+    room: &Room<'_, 'h, H, J, R, DiskFile, K>,
+    desk: &mut Desk<'p, 'h, H, J>,
+    pipe: File,
+    answers: File,
+) -> After {
+    let lines = LinesPipe {
+        pipe: &pipe,
+        door: &room.door,
+        asks: &desk.paths.asks,
+    };
+    let served = match BufReader::new(room.heap, lines) {
+        Ok(reader) => serve_all(room, &mut desk.chair, reader, answers),
+        // Without memory for its lines the client is as one that asks nothing: it sees the end, and can come again.
+        Err(_) => Served::Gone,
+    };
+    match served {
+        Served::Gone | Served::Deaf => After::Client(Some(pipe)),
+        Served::Ended | Served::Broken => After::End,
+    }
+}
+
+/// Answers the lines that come from a pipe until nobody has it open to write, or no further one is taken.
+fn serve_all<'s, 'h, H: Allocator, J: Naming<H>, R: Wait, K: Clocked>(
     room: &Room<'_, 'h, H, J, R, DiskFile, K>,
     chair: &mut Chair<'h, H, J>,
     reader: BufReader<LinesPipe<'s>, &'h H>,
-    writer: File,
-) -> After {
+    answers: File,
+) -> Served {
     let mut reader = reader;
-    let mut out = Counted::new(writer);
-    let mut attendant = DeskAttendant { room, chair };
-    let served = serve_lines(room.heap, &room.door, &mut reader, &mut out, &mut attendant);
-    match served {
-        Served::Gone => {
-            drop(out);
-            let LinesPipe { pipe, .. } = reader.into_inner();
-            After::Client(Some(pipe))
+    let mut out = Counted::new(answers);
+    for _ in room.rt.forever() {
+        let mut attendant = DeskAttendant { room, chair };
+        match serve_lines(room.heap, &room.door, &mut reader, &mut out, &mut attendant) {
+            // Nobody reads the answers that were collected: they are forgotten. Whose the lines are that follow can't
+            // be told: the next client may be there already, and may write once it has opened both pipes. So they are
+            // carried out like all others, and nothing is lost. If the pipe was closed now, that client would write to
+            // one that nobody reads.
+            Served::Deaf => {}
+            served => return served,
         }
-        Served::Deaf => {
-            // What it asked and nobody has taken must not come to the next client. Whoever sees the end of the answers
-            // may ask anew at once: that must not come to this reader.
-            drop(reader);
-            drop(out);
-            After::Client(None)
-        }
-        Served::Ended | Served::Broken => After::End,
     }
+    Served::Gone
 }
 
 /// Who answers at a desk: whoever sits there asks the room.
@@ -152,21 +174,9 @@ fn answer_desk<'h, H: Allocator, J: Naming<H>, R: Wait, K: Clocked>(
     }
 }
 
-/// A desk's pipes that were opened: the lines that come in, and where the answers go out.
-type Opened<'s, 'h, H> = (BufReader<LinesPipe<'s>, &'h H>, File);
-
-/// Opens a desk's pipes: waits for a client.
-fn open_both<'s, 'h, P: Pipes, H: Allocator, J: Naming<H>, R: Wait, K: Clocked>(
-    room: &'s Room<'_, 'h, H, J, R, DiskFile, K>,
-    pipes: &P,
-    paths: &'s Paths<&'h H>,
-) -> io::Result<Opened<'s, 'h, H>> {
+/// Opens a desk's pipes, that of the lines and that of the answers: waits for a client.
+fn open_both<P: Pipes, H: Allocator>(pipes: &P, paths: &Paths<&H>) -> io::Result<(File, File)> {
     let pipe = pipes.open_to_read(paths.lines.as_str())?;
     let answers = pipes.open_to_write(paths.answers.as_str())?;
-    let lines = LinesPipe {
-        pipe,
-        door: &room.door,
-        asks: &paths.asks,
-    };
-    Ok((BufReader::new(room.heap, lines)?, answers))
+    Ok((pipe, answers))
 }

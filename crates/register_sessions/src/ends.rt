@@ -9,14 +9,15 @@ use std::io::{Read, Write};
 use std::sync::Wait;
 use std::sync::atomic::Ordering;
 
-/// How long the first wait for desks that answer is, in milliseconds. Each further one is twice as long, up to the longest.
+/// How long the first wait for desks that answer is, in milliseconds. Each further one
+/// is twice as long, up to the longest.
 const FIRST_WAIT: u64 = 1;
 
 /// How long a wait is at most, in milliseconds.
 const LONGEST_WAIT: u64 = 32;
 
-/// How many waits there are: a second together. A client that reads takes its last answers in that time; one that does
-/// not is cut off.
+/// How many waits there are: a second together, with five of 1 to 16 milliseconds and 31 of the longest. A client that
+/// reads takes its last answers in that time; one that does not is cut off.
 const WAITS: usize = 36;
 
 /// A desk's pipes as the other end has them.
@@ -27,8 +28,8 @@ struct Ends<'p, A: Allocator> {
     answers: File,
 }
 
-/// Has all desks take no further line, and wakes those that wait for a client or for a line. The answers of a client that
-/// does not read are taken in its place, so that its desk ends.
+/// Has all desks take no further line, and wakes those that wait for a client or for a line. The answers of a client
+/// that does not read are taken in its place, so that its desk ends.
 pub(crate) fn close_desks<P: Pipes, R: Wait, A: Allocator, B: Allocator + Copy>(
     rt: &R,
     alloc: B,
@@ -61,8 +62,8 @@ pub(crate) fn close_desks<P: Pipes, R: Wait, A: Allocator, B: Allocator + Copy>(
     }
 }
 
-/// Opens a desk's pipes for both reading and writing, which wakes who waits to open them and waits for nobody; and then the
-/// other end of each.
+/// Opens a desk's pipes for both reading and writing, which wakes who waits to open them and waits for nobody; and then
+/// the other end of each.
 fn open_ends<'p, P: Pipes, A: Allocator>(
     pipes: &P,
     paths: &'p Paths<A>,
@@ -101,6 +102,7 @@ fn wait_for_desks<P: Pipes, A: Allocator>(pipes: &P, paths: &[Paths<A>]) {
 fn take_all(pipe: &File) {
     let mut pipe = pipe;
     let mut taken = [0; 4096];
+    // Nobody writes so often: the loop ends with the pipe.
     for _ in 0..u64::MAX {
         match pipe.read(&mut taken) {
             Ok(0) | Err(_) => return,

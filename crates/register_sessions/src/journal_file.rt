@@ -14,7 +14,8 @@ pub trait Machine {
     ghost use Rattle.std.specs.Prelude.{⊤, ℕ, List, Option};
     ghost use Rattle.std.specs.Result.{result_ok};
 
-    // What may be told of the file at a path: its device and its node, or none; a machine that says nothing leaves it out.
+    // What may be told of the file at a path: its device and its node, or none; a machine that says nothing leaves it
+    // out.
     ghost tells: { Self → List ℕ → Option (ℕ × ℕ) → Type 0 } = { λ _ _ _. ⊤ };
 
     /// The device and the node of the file at a path.

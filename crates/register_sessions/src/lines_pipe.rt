@@ -10,7 +10,7 @@ use std::sync::atomic::{AtomicBool, Ordering};
 /// desks to wake; once the session closes, nothing more comes from it.
 #[derive(Drop)]
 pub(crate) struct LinesPipe<'s> {
-    pub(crate) pipe: File,
+    pub(crate) pipe: &'s File,
     pub(crate) door: &'s Door,
     pub(crate) asks: &'s AtomicBool,
 }
@@ -22,7 +22,8 @@ impl<'s> Read for LinesPipe<'s> {
         let read = if self.door.is_closing() {
             Ok(0)
         } else {
-            self.pipe.read(buf)
+            let mut pipe = self.pipe;
+            pipe.read(buf)
         };
         self.asks.store(false, Ordering::SeqCst);
         read

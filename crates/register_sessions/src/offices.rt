@@ -9,14 +9,6 @@ use desk_lock::{Card, MOST_PLACES, Naming, Window};
 use session_rooms::Chair;
 use std::alloc::{AllocError, Allocator};
 
-/// Who sits where: at each desk with pipes, and at the operator's.
-#[derive(Drop)]
-pub(crate) struct Seats<'p, 'h, H: Allocator, J: Naming<H>> {
-    pub(crate) desks: Vec<Desk<'p, 'h, H, J>, &'h H>,
-    /// The operator's.
-    pub(crate) chair: Chair<'h, H, J>,
-}
-
 /// How many clerks a session with so many desks has: where there is none, the operator is the one.
 pub(crate) fn clerks_of(desks: usize) -> usize
     ensures { result ≡ max desks 1 }
@@ -31,14 +23,14 @@ pub(crate) fn windows_of(desks: usize) -> usize
     desks.saturating_add(1).min(MOST_PLACES)
 }
 
-/// Seats clerks: card K and window K go to desk K; without desks, the operator gets the card. A window that is left is
-/// the operator's.
+/// The desks, and the operator's chair: card K and window K go to desk K; without desks, the operator gets the card. A
+/// window that is left is the operator's.
 pub(crate) fn seat_all<'p, 'h, H: Allocator, J: Naming<H>>(
     heap: &'h H,
     paths: &'p [Paths<&'h H>],
     cards: Vec<Card<'h, H, J>, &'h H>,
     windows: Vec<Window<'h, H, J>, &'h H>,
-) -> Result<Seats<'p, 'h, H, J>, AllocError> {
+) -> Result<(Vec<Desk<'p, 'h, H, J>, &'h H>, Chair<'h, H, J>), AllocError> {
     let mut desks = Vec::new(heap);
     let mut cards = cards.into_iter();
     let mut windows = windows.into_iter();
@@ -49,9 +41,9 @@ pub(crate) fn seat_all<'p, 'h, H: Allocator, J: Naming<H>>(
         };
         desks.push(Desk { paths: pair, chair })?;
     }
-    let chair = Chair {
+    let operators = Chair {
         card: cards.next(),
         window: windows.next(),
     };
-    Ok(Seats { desks, chair })
+    Ok((desks, operators))
 }

@@ -7,8 +7,9 @@ ghost use Rattle.register_sessions.specs.own.Operators.{IsOperatorAnswer, IsOper
 ghost use Rattle.session_rooms.specs.DeskAnswers.{GoesOnBy, HasWindowLearnt};
 
 use crate::journal_file::{DiskFile, Machine};
+use crate::own_files::OwnFiles;
 use crate::post::{Attendant, Next, Served, Trouble, serve_lines};
-use crate::reports::{Exports, Ground, report_check, report_export, report_zones};
+use crate::reports::{Exports, report_check, report_export, report_zones};
 use desk_lock::{Naming, Notice, Window};
 use fabric_core::Layer;
 use geo_exact::ByteOut;
@@ -18,11 +19,14 @@ use std::alloc::{AllocError, Allocator};
 use std::io::{BufReader, Read};
 use std::sync::Wait;
 
-/// The operator's desk: who sits there, and what reports need.
+/// The operator's desk: who sits there, and what reports need beside the office's sheet.
 #[derive(Drop)]
 pub(crate) struct Operator<'h, H: Allocator, J: Naming<H>> {
     pub(crate) chair: Chair<'h, H, J>,
-    pub(crate) ground: Ground<'h, H, J>,
+    /// The zones of the city, where there are some.
+    pub(crate) zones: Option<Layer<'h, H>>,
+    /// The files that no export replaces.
+    pub(crate) own_files: OwnFiles<&'h H>,
 }
 
 /// Answers the operator's lines until no further one is taken.
@@ -73,7 +77,7 @@ impl<
 
     ghost answers = { λ old came line before next new after.
         IsOperatorAnswerOf P.tells P.finds P.replace_gives W.written J.office old.room.now.journal old.disk.now
-        old.operator.now.ground.own_files old.operator.now.ground.zones
+        old.operator.now.own_files old.operator.now.zones
         old.operator.now.chair new.operator.now.chair came line before next after };
 
     fn answer(
@@ -106,7 +110,7 @@ fn answer_operator<
     out: &mut W,
 ) -> Result<Next, Trouble>
     ensures answered { IfOk result (λ next. IsOperatorAnswerOf P.tells P.finds P.replace_gives W.written J.office
-        room.now.journal disk.now operator.old.ground.own_files operator.old.ground.zones
+        room.now.journal disk.now operator.old.own_files operator.old.zones
         operator.old.chair operator.new.chair came line.now (record { text = text.old.items; out = out.old })
         next (record { text = text.new.items; out = out.new })) }
     ensures unwritten { IfErr result (λ trouble. trouble ≡ Trouble.NoMemory → out.new ≡ out.old) }
@@ -152,18 +156,22 @@ fn answer_line<
     out: &mut W,
 ) -> Result<(), Trouble>
     ensures answered { OnOk result (IsOperatorAnswer P.tells P.finds P.replace_gives W.written J.office
-        room.now.journal disk.now operator.old.ground.own_files operator.old.ground.zones
+        room.now.journal disk.now operator.old.own_files operator.old.zones
         operator.old.chair operator.new.chair asked.entry.line (record { text = text.old.items; out = out.old })
         (record { text = text.new.items; out = out.new })) }
     ensures unwritten { IfErr result (λ trouble. trouble ≡ Trouble.NoMemory → out.new ≡ out.old) }
 {
-    let Operator { chair, ground } = operator;
+    let Operator {
+        chair,
+        zones,
+        own_files,
+    } = operator;
     let Asked { who, line } = asked;
     match line {
         Line::Check => Ok(answer_check(room, text)?),
-        Line::Overlay => answer_overlay(room, ground, false, text, out),
-        Line::OverlayAreas => answer_overlay(room, ground, true, text, out),
-        Line::Export(base) => Ok(answer_export(room, disk, ground, base, text)?),
+        Line::Overlay => answer_overlay(room, zones, false, text, out),
+        Line::OverlayAreas => answer_overlay(room, zones, true, text, out),
+        Line::Export(base) => Ok(answer_export(room, disk, own_files, base, text)?),
         Line::Publish => Ok(answer_publish(room, &mut chair.window, text)?),
         Line::Close => Ok(()),
         line => {
@@ -186,19 +194,20 @@ fn answer_check<'h, H: Allocator, J: Naming<H>, R: Wait, K: Clocked>(
     }
 }
 
-/// Writes which parcels and zones overlap, where there are zones, and with areas how much of each parcel lies in each zone.
+/// Writes which parcels and zones overlap, where there are zones, and with areas how much of each parcel lies in each
+/// zone.
 fn answer_overlay<'h, H: Allocator, J: Naming<H>, R: Wait, K: Clocked, W: ByteOut>(
     room: &Room<'_, 'h, H, J, R, DiskFile, K>,
-    ground: &Ground<'h, H, J>,
+    zones: &Option<Layer<'h, H>>,
     has_areas: bool,
     text: &mut Vec<u8, &'h H>,
     out: &mut W,
 ) -> Result<(), Trouble>
-    ensures answered { OnOk result (IsOverlayAnswer W.written has_areas J.office room.now.journal ground.now.zones
+    ensures answered { OnOk result (IsOverlayAnswer W.written has_areas J.office room.now.journal zones.now
         (record { text = text.old.items; out = out.old }) (record { text = text.new.items; out = out.new })) }
     ensures unwritten { IfErr result (λ trouble. trouble ≡ Trouble.NoMemory → out.new ≡ out.old) }
 {
-    match &ground.zones {
+    match zones {
         Some(zones) => answer_zones(room, zones, has_areas, text, out),
         None => Ok(push_error(text, SessionFault::NoZones)?),
     }
@@ -230,19 +239,19 @@ fn answer_zones<'h, H: Allocator, J: Naming<H>, R: Wait, K: Clocked, W: ByteOut>
     }
 }
 
-/// Replaces the layer at BASE by the parcels, unless that would replace one of the session's own files, or something is in
-/// the way.
+/// Replaces the layer at BASE by the parcels, unless that would replace one of the session's own files, or something is
+/// in the way.
 fn answer_export<'h, P: Exports + Machine, H: Allocator, J: Naming<H>, R: Wait, K: Clocked>(
     room: &Room<'_, 'h, H, J, R, DiskFile, K>,
     disk: &P,
-    ground: &Ground<'h, H, J>,
+    own_files: &OwnFiles<&'h H>,
     base: &str,
     text: &mut Vec<u8, &'h H>,
 ) -> Result<(), AllocError>
     ensures { OnOk result (GoesOnBy (IsExportAnswer P.tells P.finds P.replace_gives J.office room.now.journal disk.now
-        ground.now.own_files base.now) text.old.items text.new.items) }
+        own_files.now base.now) text.old.items text.new.items) }
 {
-    match ground.own_files.find_in_export(disk, room.heap, base)? {
+    match own_files.find_in_export(disk, room.heap, base)? {
         Some(path) => {
             let why = format!(in room.heap; "S5 {path}")?;
             push_failure(text, why.as_str())

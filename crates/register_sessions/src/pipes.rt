@@ -16,12 +16,12 @@ pub(crate) const LINES: &str = ".in";
 /// How the path of the pipe ends at which it answers.
 pub(crate) const ANSWERS: &str = ".out";
 
-/// How the path of the file ends that a session holds as long as it serves a desk. A pipe has no place for a lock: whoever
-/// holds one open is its client's other end.
+/// How the path of the file ends that a session holds as long as it serves a desk. A pipe has no place for a lock:
+/// whoever holds one open is its client's other end.
 pub(crate) const LOCK: &str = ".lock";
 
-/// How the path of the session's own name of a pipe ends, behind that of the pipe. By it the pipe is opened and its desk is
-/// woken, also where somebody has unlinked the pipe meanwhile.
+/// How the path of the session's own name of a pipe ends, behind that of the pipe. By it the pipe is opened and its
+/// desk is woken, also where somebody has unlinked the pipe meanwhile.
 const OWN_NAME: &str = ".held";
 
 /// What of a pipe's mode lets every user read or write it.
@@ -78,8 +78,8 @@ fn pipe(file: File) -> io::Result<File> {
     }
 }
 
-/// The paths of a desk's pipes, where they can be the session's own names of them: the lines that are asked come in at the
-/// one, and the answers go out at the other.
+/// The paths of a desk's pipes, where they can be the session's own names of them: the lines that are asked come in at
+/// the one, and the answers go out at the other.
 #[derive(Drop)]
 pub(crate) struct Paths<A: Allocator> {
     pub(crate) lines: String<A>,
@@ -97,7 +97,7 @@ pub(crate) struct Paths<A: Allocator> {
 /// # Errors
 ///
 /// [`StartFault::NoPipe`] (S4) with the first path at which is no named pipe, or one of those before, or one that every
-/// user can read or write, or a lock that another session holds; [`StartFault::Run`] where an allocation is refused.
+/// user can read or write, or a lock that another session holds; [`StartFault::Run`] where an allocation fails.
 pub(crate) fn find_pipes<'a, F: Files<File = File>, A: Allocator + Copy>(
     files: &F,
     alloc: A,

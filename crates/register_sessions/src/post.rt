@@ -10,13 +10,12 @@ ghost use Rattle.session_rooms.specs.Lines.{IsWhatCame};
 ghost use Rattle.register_sessions.specs.own.Posts.{IsKept, IsFollowed, IsServed, IsExcused};
 
 use geo_exact::{ByteOut, Failed};
-use session_lines::{SessionFault, push_error};
 use session_rooms::{Came, Door, has_line, next_line};
 use std::alloc::{AllocError, Allocator};
 use std::io::{BufReader, Read};
 use text_pieces::put_all;
 
-/// How many bytes of answers are collected at most before they are written.
+/// How many bytes of answers are collected at most before they are written: as many as a pipe of Linux holds.
 const MOST_TEXT: usize = 65_536;
 
 /// What follows a line that was answered.
@@ -78,8 +77,8 @@ pub(crate) trait Attendant<A: Allocator, W: ByteOut> {
     ghost use Rattle.register_sessions.specs.declared.post.Next.{Next};
     ghost use Rattle.register_sessions.specs.own.Posts.{Outbox};
 
-    // What an answer may be: who answers, what came and its line, what was collected before and the writer, what follows,
-    // and who answers, what is collected, and the writer then.
+    // What an answer may be: who answers, what came and its line, what was collected before and the writer, what
+    // follows, and who answers, what is collected, and the writer then.
     ghost answers: { Self → Came → List ℕ → Outbox W → Next → Self → Outbox W → Type 0 };
 
     /// Adds the answer to what came to a text, or writes the text and then the answer.
@@ -107,6 +106,7 @@ pub(crate) fn serve_lines<
 >(alloc: A, door: &Door, reader: &mut BufReader<F, B>, out: &mut W, attendant: &mut T) -> Served {
     let mut line = Vec::new(alloc);
     let mut text = Vec::new(alloc);
+    // Nobody asks so often: the loop ends with who asks, or with the session.
     for _ in 0..u64::MAX {
         if let Some(served) = serve_line(door, reader, &mut line, &mut text, out, attendant) {
             return served;
@@ -190,7 +190,8 @@ fn go_on<A: Allocator, W: ByteOut>(
     }
 }
 
-/// Says that there was no memory for an answer, of which a beginning may stand at the end of the text.
+/// Writes the answers that were collected before, and that there was no memory for this one, of which a beginning may
+/// stand at the end of the text.
 fn excuse<A: Allocator, W: ByteOut>(
     before: usize,
     text: &mut Vec<u8, A>,
@@ -201,11 +202,8 @@ fn excuse<A: Allocator, W: ByteOut>(
 {
     text.truncate(before);
     write_out(text, out)?;
-    // There is room for it now, unless there never was any.
-    match push_error(text, SessionFault::NoMemory) {
-        Ok(()) => Ok(()),
-        Err(_) => Err(Failed),
-    }
+    // As it stands, since to make the line would take memory.
+    put_all(b"error: no memory\n", out)
 }
 
 /// Writes the answers that were collected, where that is due.

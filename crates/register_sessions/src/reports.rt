@@ -14,7 +14,6 @@ ghost use Rattle.register_sessions.specs.own.Overlays.{WritesTable, IsWantOfMemo
 ghost use Rattle.register_sessions.specs.own.Operators.{IsOverlayReport, check_report};
 ghost use Rattle.register_sessions.specs.own.Exports.{IsExported, IsLineOfFault};
 
-use crate::own_files::OwnFiles;
 use crate::post::{Trouble, write_out};
 use area_shares::{AreaLine, area_lines, write_areas};
 use city_layers::{ToolFault, push_fault};
@@ -29,15 +28,6 @@ use std::marker::PhantomData;
 use std::sync::Wait;
 use text_pieces::{Sink, put_all};
 use zone_tables::write_report;
-
-/// What reports need beside the office's sheet: the zones of its city, where there are some, and which files no export
-/// replaces.
-#[derive(Drop)]
-pub(crate) struct Ground<'h, H: Allocator, J: Naming<H>> {
-    pub(crate) zones: Option<Layer<'h, H>>,
-    pub(crate) own_files: OwnFiles<&'h H>,
-    pub(crate) of: PhantomData<J>,
-}
 
 /// Adds the line of a sheet's tiling.
 pub(crate) fn report_check<'h, H: Allocator>(
@@ -187,8 +177,8 @@ fn fault_of_round(fault: RoundFault) -> SessionFault
     }
 }
 
-/// What is told of a round that could not be closed though its hand was stepped until it was done, or held a parcel: that
-/// is for want of memory.
+/// What is told of a round that could not be closed though its hand was stepped until it was done, or held a parcel:
+/// memory ran out.
 fn fault_of_close(fault: CloseFault) -> SessionFault
     requires { IsWantOfMemory fault }
     ensures { result ≡ NoMemory }
@@ -220,19 +210,19 @@ fn whole_list<'h, H: Allocator>(
 
 /// Where exports are written.
 pub trait Exports {
-    ghost use Rattle.city_layers.specs.declared.fault.ToolFault.{ToolFault};
+    ghost use Rattle.city_layers.specs.declared.fault.ToolFault.{ToolFault as Fault};
 
     // What may be found in the way at a base, as the operator is told it; a place that says nothing leaves it out.
     ghost finds: { Self → List ℕ → Option (List ℕ) → Type 0 } = { λ _ _ _. ⊤ };
 
     // What replacing the layer at a base by a main file and an index may give; a place that says nothing leaves it out.
-    ghost replace_gives: { Self → List ℕ → List ℕ → List ℕ → Result (Unit {0}) ToolFault → Type 0 } = { λ _ _ _ _ _. ⊤ };
+    ghost replace_gives: { Self → List ℕ → List ℕ → List ℕ → Result (Unit {0}) Fault → Type 0 } = { λ _ _ _ _ _. ⊤ };
 
     /// Why no layer is written at BASE, as the operator is told it; `None` where nothing is in the way.
     ///
     /// # Errors
     ///
-    /// [`AllocError`] where an allocation is refused.
+    /// [`AllocError`] where an allocation fails.
     fn obstacle<A: Allocator + Copy>(
         &self,
         alloc: A,

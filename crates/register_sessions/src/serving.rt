@@ -20,14 +20,6 @@ use std::sync::Wait;
 use std::thread::Threads;
 use text_pieces::put_all;
 
-/// Where the operator's lines come from and its answers go.
-#[derive(Drop)]
-pub(crate) struct Counter<I, A: Allocator, W> {
-    pub(crate) reader: BufReader<I, A>,
-    pub(crate) text: Vec<u8, A>,
-    pub(crate) out: W,
-}
-
 /// What all threads of a session share.
 #[derive(Drop)]
 struct Shared<'s, 'r, 'h, P, H: Allocator, J: Naming<H>, R: Wait, K: Clocked> {
@@ -54,9 +46,12 @@ impl<
 
 /// The operator's desk, where its lines come from, and where its answers go.
 #[derive(Drop)]
-struct Reception<'h, H: Allocator, J: Naming<H>, I, W> {
-    operator: Operator<'h, H, J>,
-    counter: Counter<I, &'h H, W>,
+pub(crate) struct Reception<'h, H: Allocator, J: Naming<H>, I, W> {
+    pub(crate) operator: Operator<'h, H, J>,
+    pub(crate) reader: BufReader<I, &'h H>,
+    /// What the operator is told first, once all is ready.
+    pub(crate) text: Vec<u8, &'h H>,
+    pub(crate) out: W,
 }
 
 impl<
@@ -80,13 +75,10 @@ impl<
     ) -> Reception<'h, H, J, I, W> {
         let Reception {
             mut operator,
-            counter,
-        } = self;
-        let Counter {
             mut reader,
             mut text,
             mut out,
-        } = counter;
+        } = self;
         if is_whole && write_out(&mut text, &mut out).is_ok() {
             let _ = serve_operator(with.room, with.disk, &mut operator, &mut reader, &mut out);
         }
@@ -94,23 +86,15 @@ impl<
         close_desks(room.rt, room.heap, &room.door, with.disk, with.paths);
         Reception {
             operator,
-            counter: Counter { reader, text, out },
+            reader,
+            text,
+            out,
         }
     }
 }
 
-/// What is left once all desks have ended.
-#[derive(Drop)]
-struct Ended<'h, H: Allocator, J: Naming<H>, W> {
-    cards: Vec<Card<'h, H, J>, &'h H>,
-    /// The first desk that was refused a thread, from 0.
-    refused: Option<usize>,
-    text: Vec<u8, &'h H>,
-    out: W,
-}
-
-/// Serves all desks until the session is closed, and closes its office. The counter's text is what the operator is told
-/// first, once all is ready.
+/// Serves each desk in a thread of its own, and the operator's in this one, until the session is closed, and closes its
+/// office.
 ///
 /// # Errors
 ///
@@ -132,69 +116,40 @@ pub(crate) fn serve<
     disk: &P,
     paths: &'p [Paths<&'h H>],
     desks: Vec<Desk<'p, 'h, H, J>, &'h H>,
-    operator: Operator<'h, H, J>,
-    counter: Counter<I, &'h H, W>,
+    reception: Reception<'h, H, J, I, W>,
 ) -> Result<(), StartFault<'a, &'h H>> {
-    let Ended {
-        cards,
+    let (rt, heap) = (room.rt, room.heap);
+    let done = {
+        let shared = Shared {
+            room: &room,
+            disk,
+            paths,
+        };
+        run_beside(rt, heap, &shared, desks, reception)
+    };
+    let Done {
+        tasks,
         refused,
-        mut text,
-        mut out,
-    } = serve_all(&room, disk, paths, desks, Reception { operator, counter });
+        host,
+    } = done;
+    // Counted from 0.
     if let Some(desk) = refused {
         return Err(StartFault::Run(ToolFault::NoThread(desk)));
     }
-    let rt = room.rt;
+    let Reception {
+        operator,
+        mut text,
+        mut out,
+        ..
+    } = host;
+    let Operator { chair, .. } = operator;
+    let cards = cards_of(heap, tasks, chair);
     let (office, kept) = room.end();
     text.clear();
     push_end_of(rt, office, cards, kept, &mut text)?;
     match put_all(text.as_slice(), &mut out) {
         Ok(()) => Ok(()),
         Err(_) => Err(StartFault::Run(ToolFault::Output)),
-    }
-}
-
-/// Serves each desk in a thread of its own, and the operator's in this one, until all have ended.
-fn serve_all<
-    'p,
-    'h,
-    P: Pipes + Exports + Machine + Sync,
-    R: Threads + Wait + Sync,
-    H: Allocator + Send + Sync,
-    J: Naming<H> + Send + Sync,
-    K: Clocked + Sync,
-    I: Read + Drop,
-    W: ByteOut + Drop,
->(
-    room: &Room<'_, 'h, H, J, R, DiskFile, K>,
-    disk: &P,
-    paths: &'p [Paths<&'h H>],
-    desks: Vec<Desk<'p, 'h, H, J>, &'h H>,
-    reception: Reception<'h, H, J, I, W>,
-) -> Ended<'h, H, J, W> {
-    let shared = Shared { room, disk, paths };
-    let done = run_beside(room.rt, room.heap, &shared, desks, reception);
-    take_apart(room.heap, done)
-}
-
-/// What is left of a session, taken apart.
-fn take_apart<'p, 'h, H: Allocator, J: Naming<H>, I: Drop, W: Drop>(
-    heap: &'h H,
-    done: Done<Desk<'p, 'h, H, J>, &'h H, Reception<'h, H, J, I, W>>,
-) -> Ended<'h, H, J, W> {
-    let Done {
-        tasks,
-        refused,
-        host,
-    } = done;
-    let Reception { operator, counter } = host;
-    let Counter { text, out, .. } = counter;
-    let Operator { chair, .. } = operator;
-    Ended {
-        cards: cards_of(heap, tasks, chair),
-        refused,
-        text,
-        out,
     }
 }
 
@@ -225,8 +180,8 @@ fn keep_card<'h, H: Allocator, J: Naming<H>>(
     }
 }
 
-/// Closes an office, and adds what the operator is told of it: of entries only those that the disk has, where so many are
-/// kept there.
+/// Closes an office, and adds what the operator is told of it: of entries only those that the disk has, where so many
+/// are kept there.
 fn push_end_of<'h, H: Allocator, J: Naming<H>, R: Wait>(
     rt: &R,
     office: Office<'h, H, J, &R>,

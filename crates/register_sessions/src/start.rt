@@ -8,16 +8,16 @@ ghost use Rattle.register_sessions.specs.StartFaults.{IsToldOf, IsToldRefused};
 
 use crate::found_journal::{FoundJournal, find_journal};
 use crate::journal_file::{DiskFile, DiskSynchroniser, Machine};
-use crate::offices::{Seats, clerks_of, seat_all, windows_of};
+use crate::offices::{clerks_of, seat_all, windows_of};
 use crate::operator::Operator;
 use crate::own_files::OwnFiles;
 use crate::pipes::{Paths, Pipes, find_pipes, let_go};
-use crate::reports::{Exports, Ground};
-use crate::serving::{Counter, serve};
+use crate::reports::Exports;
+use crate::serving::{Reception, serve};
 use crate::start_fault::StartFault;
 use city_layers::{Disk, ToolFault, read_source, read_text};
 use clerk_runs::push_refusal;
-use desk_lock::{Name, Naming, Office, OpenFault};
+use desk_lock::{Name, Naming, Office};
 use fabric_core::{Fabric, Layer, Refusal};
 use geo_exact::{Counted, Unit};
 use journal_records::{JournalFault, Seal};
@@ -32,7 +32,7 @@ use std::alloc::Allocator;
 use std::fs::File;
 use std::io;
 use std::io::{BufReader, Input};
-use std::marker::{Brand, PhantomData};
+use std::marker::Brand;
 use std::rt::Files;
 use std::sync::Wait;
 use std::thread::Threads;
@@ -333,29 +333,19 @@ fn at_office<
     let opened = Office::<H, J, &R>::open(rt, heap, name, fabric, clerks, windows);
     let (office, cards, windows) = match opened {
         Ok(opened) => opened,
-        Err((_, fault)) => return Err(StartFault::Run(fault_of_open(fault))),
+        Err((_, fault)) => return Err(StartFault::from(fault)),
     };
-    let Seats { desks, chair } = seat_all(heap, paths, cards, windows)?;
+    let (desks, chair) = seat_all(heap, paths, cards, windows)?;
     let room = Room::new(office, journal, heap, rt);
-    let ground = Ground {
-        zones,
-        own_files,
-        of: PhantomData,
-    };
-    let operator = Operator { chair, ground };
-    let counter = Counter {
+    let reception = Reception {
+        operator: Operator {
+            chair,
+            zones,
+            own_files,
+        },
         reader,
         text,
         out: Counted::new(io::writer(rt)),
     };
-    serve(room, disk, paths, desks, operator, counter)
-}
-
-/// What the fault of an office is to the user.
-fn fault_of_open(fault: OpenFault) -> ToolFault<'static> {
-    match fault {
-        OpenFault::NoWindow(window) => ToolFault::NoWindow(window),
-        OpenFault::Places(count) => ToolFault::ClerkCount(count),
-        OpenFault::NoMemory => ToolFault::NoMemory,
-    }
+    serve(room, disk, paths, desks, reception)
 }

@@ -44,8 +44,8 @@ pub record IsTriangleAt (rest : List Corner) (k : ℕ) (t : Tri) : Type 0 where
   pub b : t.b ≡ corner_at rest k
   pub c : t.c ≡ next rest k
 
--- The ring is clipped to the triangles and the rest. As long as more than two corners are left, the first flat corner is taken
--- out; where none is flat, the first ear is taken out, and its triangle added.
+-- The ring is clipped to the triangles and the rest. As long as more than two corners are left, the first flat corner
+-- is taken out; where none is flat, the first ear is taken out, and its triangle added.
 pub data Clips (ring : List Corner) : List Tri → List Corner → Type 0 where
   untouched : Clips ring [] ring
   flat : {ts : List Tri} {rest : List Corner} (k : ℕ) → Clips ring ts rest → 2 < length rest

@@ -1,6 +1,6 @@
--- Simple rings: their edges meet only as neighbours do (OGC 06-103r4, 6.1.7, LinearRing: closed and simple; 6.1.6, Curve: simple).
--- Stricter than there, where a curve is a set of points: here the ring runs counterclockwise, and an edge of no
--- length is an edge like another.
+-- Simple rings: their edges meet only as neighbours do (OGC 06-103r4, 6.1.7, LinearRing: closed and simple; 6.1.6,
+-- Curve: simple). Stricter than there, where a curve is a set of points: here the ring runs counterclockwise, and an
+-- edge of no length is an edge like another.
 use Rattle.std.specs.Prelude.{◌≡◌, ◌⊎◌, ℕ, ◌<◌, pos, ◌<ℤ◌, List, length}
 use Rattle.geo_exact.specs.declared.corner.Corner.{Corner}
 use Rattle.geo_exact.specs.Point.{Point, IsPlaceOf}
@@ -15,7 +15,8 @@ IsOnEdgeAt p ring i = IsOnEdge p (corner_at ring i) (corner_at ring (after (leng
 -- edges i and j follow one another, and p is the corner between them
 abbrev pub IsSharedCorner : Point → List Corner → ℕ → ℕ → Type 0
 IsSharedCorner p ring i j =
-    ((j ≡ after (length ring) i) × IsPlaceOf p (corner_at ring j)) ⊎ ((i ≡ after (length ring) j) × IsPlaceOf p (corner_at ring i))
+    ((j ≡ after (length ring) i) × IsPlaceOf p (corner_at ring j))
+    ⊎ ((i ≡ after (length ring) j) × IsPlaceOf p (corner_at ring i))
 
 -- edges i and j meet otherwise than as neighbours: some point lies on both, and is no corner that they share
 abbrev pub MeetOtherwise : List Corner → ℕ → ℕ → Type 0

@@ -1,4 +1,5 @@
--- Winding numbers and areas summed over triangles (OGC 06-103r4, 6.1.12, PolyhedralSurface: a surface made up of polygons).
+-- Winding numbers and areas summed over triangles (OGC 06-103r4, 6.1.12,
+-- PolyhedralSurface: a surface made up of polygons).
 use Rattle.std.specs.Prelude.{◌≡◌, ℤ, pos, ◌+ℤ◌, ◌≤ℤ◌, List, [], ◌∷◌}
 use Rattle.std.specs.List.{All}
 use Rattle.geo_exact.specs.declared.corner.Corner.{Corner}

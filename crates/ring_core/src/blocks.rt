@@ -7,18 +7,18 @@ ghost use Rattle.leaning_boxes.specs.declared.leaning.LeaningBox.{LeaningBox as 
 ghost use Rattle.ring_core.specs.own.Blocks.{AreBlocksOrNone, number_less};
 
 use crate::leaning::box_of_edges;
-use crate::places::less;
+use crate::places::renumbered;
 use geo_exact::Corner;
 use leaning_boxes::LeaningBox;
 use std::alloc::{AllocError, Allocator};
 
-/// The most corners of a ring that is clipped without blocks.
+/// The most corners of a ring that is clipped without blocks: to make them for fewer takes longer than it spares.
 const FEW_CORNERS: usize = 64;
 
-/// How many corners a block has, as it is made.
+/// How many corners a block has, as it is made: so few in a row lie near each other, and their box is narrow.
 pub const BLOCK_CORNERS: usize = 16;
 
-/// Numbers that follow one another: from `start` on and before `end`.
+/// Numbers that follow one another: from `start` on and before `end`, as 3, 4 and 5 from 3 on and before 6.
 #[derive(Clone, Copy, Debug)]
 pub struct Span {
     /// The first number.
@@ -34,8 +34,8 @@ impl Span {
         ensures end { result.end ≡ number_less k self.end }
     {
         Span {
-            start: less(k, self.start),
-            end: less(k, self.end),
+            start: renumbered(k, self.start),
+            end: renumbered(k, self.end),
         }
     }
 }
@@ -63,7 +63,7 @@ pub struct BlockList<A: Allocator> {
 ///
 /// # Errors
 ///
-/// [`AllocError`] where an allocation is refused.
+/// [`AllocError`] where an allocation fails.
 pub fn blocks_of<A: Allocator + Copy>(
     alloc: A,
     corners: &[Corner],

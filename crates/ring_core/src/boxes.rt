@@ -77,7 +77,8 @@ fn is_on_right(bounds: Bounds, a: Corner, b: Corner) -> bool
 
 /// Whether a box lies wholly on the right of one edge of a triangle.
 pub fn is_right_of_one(bounds: Bounds, triangle: Tri) -> bool
-    ensures { IsTrue result → (q : CornerValue) → HoldsCorner bounds q → ¬ IsInTriangle q triangle.a triangle.b triangle.c }
+    ensures { IsTrue result → (q : CornerValue) → HoldsCorner bounds q
+        → ¬ IsInTriangle q triangle.a triangle.b triangle.c }
 {
     if is_on_right(bounds, triangle.b, triangle.c) {
         return true;

@@ -1,9 +1,10 @@
-//! How a place lies to a ring, with most edges passed over by their boxes.
+//! How a point lies to a ring, with most edges passed over by their boxes.
 
 ghost use Rattle.std.specs.Prelude.{◌≡◌, ℕ, ◌+◌, ◌<◌, ◌≤◌, ◌*◌, false, length, IsTrue};
 ghost use Rattle.geo_exact.specs.declared.limits.TheConstants.{RING_CORNERS};
 ghost use Rattle.ring_core.specs.Simple.{MeetOnlyAsNeighbours};
-ghost use Rattle.ring_core.specs.own.ByPlace.{AreBoxed, AreClear, AreEdgesOf, AreInRing, HoldsEdge, IsBlockClear, edge_at};
+ghost use Rattle.ring_core.specs.own.ByPlace.{AreBoxed, AreClear, AreEdgesOf, AreInRing};
+ghost use Rattle.ring_core.specs.own.ByPlace.{HoldsEdge, IsBlockClear, edge_at};
 ghost use Rattle.ring_core.specs.own.Blocks.{IsInSpan};
 
 use crate::blocks::Span;
@@ -34,7 +35,8 @@ pub struct Placed {
     pub edge: usize,
 }
 
-/// The low 32 bits of a number, each with an empty one before it.
+/// The low 32 bits of a number, each with an empty one before it. (A coordinate has no
+/// more, in squares of 64 millimetres.)
 fn spread(number: u64) -> u64 {
     let mut bits = number & 0xffff_ffff;
     bits = (bits | bits << 16) & 0x0000_ffff_0000_ffff;
@@ -47,6 +49,7 @@ fn spread(number: u64) -> u64 {
 /// The place of the middle of an edge, in squares of 64 by 64 millimetres: the bits of its two coordinates in
 /// turn.
 fn place_of(a: Corner, b: Corner) -> u64 {
+    // Half the sum of two, in squares of 2 ^ 6. No sum saturates: a distance within the limit has 38 bits.
     let across = a.x.abs_diff(-LIMIT).saturating_add(b.x.abs_diff(-LIMIT)) >> 7;
     let up = a.y.abs_diff(-LIMIT).saturating_add(b.y.abs_diff(-LIMIT)) >> 7;
     spread(across) | spread(up) << 1

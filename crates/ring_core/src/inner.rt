@@ -80,7 +80,7 @@ fn find_box(ring: &[Corner], bounds: Bounds) -> Option<Bounds> {
     Some(found)
 }
 
-/// A box in which every place is inside the ring; where none is found, or the ring is too long for
+/// A box in which every point is inside the ring; where none is found, or the ring is too long for
 /// a layer, a box that holds none. How good the box is that is looked for is not promised, and
 /// nothing rests on it.
 pub(crate) fn core_of(ring: &[Corner], bounds: Bounds) -> Bounds

@@ -22,7 +22,8 @@ use crate::witness::witness_of;
 use geo_exact::Corner;
 use std::alloc::{AllocError, Allocator};
 
-/// What the clipping knows of a corner of a ring.
+/// What the clipping knows of a corner of a ring: of a square each corner is a candidate at first, and of an L the
+/// inner one is bent.
 #[derive(Clone, Copy, Debug)]
 pub enum Kind {
     /// It lies on the edge between its neighbours.
@@ -59,7 +60,7 @@ pub fn kind_at(corners: &[Corner], k: usize) -> Kind
 ///
 /// # Errors
 ///
-/// [`AllocError`] where an allocation is refused.
+/// [`AllocError`] where an allocation fails.
 pub fn kinds_of<A: Allocator>(alloc: A, corners: &[Corner]) -> Result<Vec<Kind, A>, AllocError>
     ensures are { IfOk result (λ kinds. (numbers : List ℕ) → AreKinds corners.now numbers kinds.items) }
     ensures unblocked { IfOk result (λ kinds. NeedNoMark kinds.items) }
@@ -130,7 +131,8 @@ pub fn first_ear<A: Allocator>(
     requires sorted { AreSortedOrNone corners.now numbers.now sorted.now.by_x.items sorted.now.by_y.items }
     ensures kinds { AreKinds corners.now numbers.now kinds.new }
     ensures marked { AreMarked kinds.new numbers.now marks.new }
-    ensures others { (j : ℕ) → slice_index_or kinds.new j Kind.Flat ≡ Kind.Flat → slice_index_or kinds.old j Kind.Flat ≡ Kind.Flat }
+    ensures others { (j : ℕ) → slice_index_or kinds.new j Kind.Flat ≡ Kind.Flat
+        → slice_index_or kinds.old j Kind.Flat ≡ Kind.Flat }
     ensures seen { (j : ℕ) → j < result → j < length kinds.new → slice_index_or kinds.new j Kind.Flat ≢ Kind.Candidate }
     ensures within { result ≤ length corners.now }
     ensures ear { result < length corners.now → IsFirst (IsEar corners.now) (length corners.now) result }

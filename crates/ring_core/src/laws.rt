@@ -1,6 +1,7 @@
 //! Laws: a ring, its numbers and its two ears.
 
-ghost use Rattle.std.specs.Prelude.{◌≡◌, ◌⊎◌, ◌↔◌, ℕ, ◌<◌, pos, ◌<ℤ◌, ◌+◌, List, ◌∷◌, take, drop, Some, length, slice_get};
+ghost use Rattle.std.specs.Prelude.{◌≡◌, ◌⊎◌, ◌↔◌, ℕ, ◌<◌, pos, ◌<ℤ◌, ◌+◌, List, ◌∷◌, take, drop};
+ghost use Rattle.std.specs.Prelude.{Some, length, slice_get};
 ghost use Rattle.geo_exact.specs.declared.corner.Corner.{Corner};
 ghost use Rattle.geo_exact.specs.Point.{Point};
 ghost use Rattle.geo_exact.specs.Rings.{Edge, edges};
@@ -31,7 +32,8 @@ pub fn a_simple_ring_has_two_ears()
     ensures ears { (ring : List Corner) → IsSimpleRing ring → 3 < length ring → HasNone (IsFlat ring) (length ring)
         → (j k : ℕ) × AreNoNeighbours (length ring) j k × IsEar ring j × IsEar ring k }
     ensures flat_or_ears { (ring : List Corner) → IsSimpleRing ring → 3 < length ring
-        → (j k : ℕ) × AreNoNeighbours (length ring) j k × (IsFlat ring j ⊎ IsEar ring j) × (IsFlat ring k ⊎ IsEar ring k) }
+        → (j k : ℕ) × AreNoNeighbours (length ring) j k × (IsFlat ring j ⊎ IsEar ring j)
+        × (IsFlat ring k ⊎ IsEar ring k) }
 {}
 
 /// A simple ring is clipped to triangles, and a ring is clipped to one list of them alone.
@@ -72,6 +74,7 @@ pub fn a_left_turn_stays_where_a_neighbour_is_clipped()
 /// A diagonal from the first corner of a ring whose edges meet only as neighbours, to one that is no
 /// neighbour of it, cuts the ring into two such rings.
 pub fn a_diagonal_cuts_a_ring_in_two()
-    ensures { (ring : List Corner) (z : ℕ) → 1 < z → z + 1 < length ring → MeetOnlyAsNeighbours ring → IsDiagonal ring 0 z
+    ensures { (ring : List Corner) (z : ℕ) → 1 < z → z + 1 < length ring → MeetOnlyAsNeighbours ring
+        → IsDiagonal ring 0 z
         → MeetOnlyAsNeighbours (take (z + 1) ring) × MeetOnlyAsNeighbours (corner_at ring 0 ∷ drop z ring) }
 {}

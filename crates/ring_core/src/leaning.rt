@@ -13,7 +13,7 @@ use crate::triangle::Tri;
 use geo_exact::{Bounds, Corner, turn};
 use leaning_boxes::{LeaningBox, reach};
 
-/// How many edges are looked at together.
+/// How many edges are looked at together. A box of sixteen edges of a spiral would hold half a turn.
 pub const BLOCK_EDGES: usize = 8;
 
 /// Whether the other numbers are below the first.

@@ -6,15 +6,15 @@ ghost use Rattle.ring_core.specs.own.Kinds.{IsInReach, IsMarked, everywhere};
 
 use std::alloc::{AllocError, Allocator};
 
-/// The greatest number that a corner can have. Of a ring of more corners the last ones share it, and are
-/// looked at again too when one of them goes.
+/// The greatest number that a corner can have, which has 16 bits, so that more marks lie in a cache. Of a ring of more
+/// corners the last ones share it, and are looked at again too when one of them goes.
 const LAST_NUMBER: usize = 65_535;
 
 /// The numbers of so many corners, in order: they ascend.
 ///
 /// # Errors
 ///
-/// [`AllocError`] where an allocation is refused.
+/// [`AllocError`] where an allocation fails.
 pub fn numbers_of<A: Allocator>(alloc: A, count: usize) -> Result<Vec<u16, A>, AllocError>
     ensures as_many { IfOk result (λ numbers. length numbers.items ≡ count) }
     ensures ascend { IfOk result (λ numbers. IsNonDecreasing numbers.items) }
@@ -53,7 +53,7 @@ impl Reach {
 ///
 /// # Errors
 ///
-/// [`AllocError`] where an allocation is refused.
+/// [`AllocError`] where an allocation fails.
 pub fn marks_of<A: Allocator>(alloc: A, count: usize) -> Result<Vec<Reach, A>, AllocError> {
     let mut marks = Vec::with_capacity(alloc, count)?;
     for _ in 0..count {

@@ -25,7 +25,8 @@ fn have_one_sign(first: i128, second: i128) -> bool
 /// Whether `c` and `d` are both left of the way from `a` to `b`, or both right of it.
 fn are_on_one_side(a: Corner, b: Corner, c: Corner, d: Corner) -> bool
     ensures { IsTrue result
-        ↔ (((pos 0 <ℤ turn_of a b c) × (pos 0 <ℤ turn_of a b d)) ⊎ ((turn_of a b c <ℤ pos 0) × (turn_of a b d <ℤ pos 0))) }
+        ↔ (((pos 0 <ℤ turn_of a b c) × (pos 0 <ℤ turn_of a b d))
+        ⊎ ((turn_of a b c <ℤ pos 0) × (turn_of a b d <ℤ pos 0))) }
 {
     have_one_sign(turn(a, b, c), turn(a, b, d))
 }
@@ -63,7 +64,7 @@ pub fn have_common_point(a: Corner, b: Corner, c: Corner, d: Corner) -> bool
     !are_on_one_side(c, d, a, b)
 }
 
-/// Whether both corners are at one place.
+/// Whether both corners are at one point.
 fn are_same(a: Corner, b: Corner) -> bool
     ensures { IsTrue result ↔ IsPlaceOf (corner_point a) b }
 {

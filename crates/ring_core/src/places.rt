@@ -21,7 +21,7 @@ pub fn preceding(count: usize, i: usize) -> usize
 }
 
 /// What number `n` is once number `k` went.
-pub fn less(k: usize, n: usize) -> usize
+pub fn renumbered(k: usize, n: usize) -> usize
     ensures { result ≡ number_less k n }
 {
     if k < n { n - 1 } else { n }

@@ -48,7 +48,8 @@ impl<A: Allocator> Model for Rest<A> {
     ghost view = { λ rest. drop rest.start rest.corners.items };
 
     ghost invariant = { λ rest. HaveFree rest.start rest.corners.items rest.numbers.items rest.kinds.items
-        × AreKept (drop rest.start rest.corners.items) (drop rest.start rest.numbers.items) (drop rest.start rest.kinds.items)
+        × AreKept (drop rest.start rest.corners.items) (drop rest.start rest.numbers.items)
+        (drop rest.start rest.kinds.items)
         rest.marks.items rest.seen
         × AreBlocksOrNone (drop rest.start rest.corners.items) rest.blocks.spans.items rest.blocks.boxes.items
         × AreSortedOrNone (drop rest.start rest.corners.items) (drop rest.start rest.numbers.items)
@@ -60,7 +61,7 @@ impl<A: Allocator + Copy> Rest<A> {
     ///
     /// # Errors
     ///
-    /// [`AllocError`] where an allocation is refused.
+    /// [`AllocError`] where an allocation fails.
     pub(crate) fn from_corners(alloc: A, corners: &[Corner]) -> Result<Rest<A>, AllocError>
         ensures { IfOk result (λ rest. rest ≡ corners.now) }
     {

@@ -14,7 +14,7 @@ use crate::places::following;
 use geo_exact::{Corner, Corners, area2, edge_boxes_meet};
 use std::alloc::{AllocError, Allocator};
 
-/// The most edges of a ring whose pairs are tried one by one.
+/// The most edges of a ring whose pairs are tried one by one: to put boxes round fewer takes longer than it spares.
 const FEW_EDGES: usize = 64;
 
 /// A simple ring: counterclockwise, of positive area, and its edges meet only as neighbours, in their
@@ -122,7 +122,8 @@ fn is_clear(ring: &[Corner], start: usize, end: usize) -> bool
     requires long { 3 ≤ length ring.now }
     requires some { start < end }
     requires in_ring { end ≤ length ring.now }
-    ensures { IsTrue result → (i j : ℕ) → start ≤ i → i < end → i < j → j < length ring.now → ¬ MeetOtherwise ring.now i j }
+    ensures { IsTrue result → (i j : ℕ) → start ≤ i → i < end → i < j → j < length ring.now
+        → ¬ MeetOtherwise ring.now i j }
 {
     let held = box_of_edges(ring, start, end);
     for j in start..ring.len() {

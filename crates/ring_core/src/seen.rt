@@ -4,7 +4,7 @@ ghost use Rattle.std.specs.Prelude.{◌≡◌, ◌≤◌};
 ghost use Rattle.ring_core.specs.own.Blocks.{number_less};
 
 use crate::kind::Kind;
-use crate::places::less;
+use crate::places::renumbered;
 
 /// How far the kinds of the corners that are left were looked through: no corner before number `flats` is
 /// flat, and none before number `candidates` is a candidate.
@@ -23,8 +23,8 @@ impl Seen {
         ensures candidates { result.candidates ≡ number_less k self.candidates }
     {
         Seen {
-            flats: less(k, self.flats),
-            candidates: less(k, self.candidates),
+            flats: renumbered(k, self.flats),
+            candidates: renumbered(k, self.candidates),
         }
     }
 

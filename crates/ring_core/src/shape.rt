@@ -24,8 +24,8 @@ use std::alloc::{AllocError, Allocator};
 /// of theirs, each of which is 0 or 1, and the twice-areas add up.
 #[derive(Debug, Drop)]
 pub struct Shape<A: Allocator> {
-    // Where a place lies is told by the core and the box alone, as a rule, so they stand first, side by side.
-    /// A box in which every place is inside the ring; it holds none where none was found.
+    // Where a point lies is told by the core and the box alone, as a rule, so they stand first, side by side.
+    /// A box in which every point is inside the ring; it holds none where none was found.
     pub core: Bounds,
     /// The least box of its corners, which holds its triangles too.
     pub bounds: Bounds,
@@ -65,7 +65,7 @@ impl<A: Allocator + Copy> Shape<A> {
     ///
     /// # Errors
     ///
-    /// [`AllocError`] where an allocation is refused.
+    /// [`AllocError`] where an allocation fails.
     ///
     /// ```
     /// let shape = Shape::clip(alloc, Ring::check(corners)?)?;
@@ -74,7 +74,8 @@ impl<A: Allocator + Copy> Shape<A> {
     pub fn clip(alloc: A, ring: Ring<A>) -> Result<Shape<A>, AllocError>
         ensures ring { IfOk result (λ shape. shape.ring.corners ≡ ring.corners) }
         ensures clipped { IfOk result (λ shape. IsClippedTo ring.corners shape.triangles) }
-        ensures windings { IfOk result (λ shape. (p : Point) → winding p ring.corners ≡ winding_of_triangles p shape.triangles) }
+        ensures windings { IfOk result (λ shape. (p : Point)
+            → winding p ring.corners ≡ winding_of_triangles p shape.triangles) }
         ensures each_once { IfOk result (λ shape. (p : Point) → All (IsRoundAtMostOnce p) shape.triangles) }
         ensures areas { IfOk result (λ shape. area2 ring.corners ≡ area2_of_triangles shape.triangles) }
         ensures bounds { IfOk result (λ shape. IsLeastBox shape.bounds ring.corners) }

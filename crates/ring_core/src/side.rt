@@ -1,4 +1,4 @@
-//! How a place lies to a ring, by its winding number.
+//! How a point lies to a ring, by its winding number.
 
 ghost use Rattle.std.specs.Prelude.{◌≡◌, ◌≤◌, length, pos, IsTrue};
 ghost use Rattle.geo_exact.specs.Limit.{IsWithin};
@@ -10,7 +10,7 @@ ghost use Rattle.ring_core.specs.Sides.{IsSide};
 
 use geo_exact::{Corner, on_segment, turn};
 
-/// How a place lies to a ring.
+/// How a point lies to a ring.
 #[derive(Clone, Copy, Debug, PartialEq, Eq)]
 pub enum Side {
     /// Inside the ring.
@@ -21,7 +21,7 @@ pub enum Side {
     Outside,
 }
 
-/// How the edge crosses the ray from a place to the right: 1 upward, -1 downward, else 0.
+/// How the edge crosses the ray from a point to the right: 1 upward, -1 downward, else 0.
 fn crossing(from: Corner, to: Corner, place: Corner) -> i64
     ensures value { result ≡ crossing_of (corner_point place) from to }
     ensures bound { IsWithin 1 result }
@@ -39,9 +39,10 @@ fn crossing(from: Corner, to: Corner, place: Corner) -> i64
     }
 }
 
-/// Whether an edge lies wholly below a place or wholly above it, as most edges of a ring do.
+/// Whether an edge lies wholly below a point or wholly above it, as most edges of a ring do.
 fn is_passed(from: Corner, to: Corner, place: Corner) -> bool
-    ensures { IsTrue result → (¬ IsOnEdge (corner_point place) from to) × (crossing_of (corner_point place) from to ≡ pos 0) }
+    ensures { IsTrue result → (¬ IsOnEdge (corner_point place) from to)
+        × (crossing_of (corner_point place) from to ≡ pos 0) }
 {
     if from.y < place.y {
         to.y < place.y
@@ -50,7 +51,7 @@ fn is_passed(from: Corner, to: Corner, place: Corner) -> bool
     }
 }
 
-/// How a place lies to a ring, by the winding number.
+/// How a point lies to a ring, by the winding number.
 ///
 /// ```
 /// // (50, 50) in the square from (0, 0) to (100, 100):

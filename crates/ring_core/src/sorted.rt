@@ -21,7 +21,8 @@ pub enum Axis {
 }
 
 impl Axis {
-    /// How far the corner is above the least coordinate that 64 bits have.
+    /// How far the corner is above the least coordinate that 64 bits have: numbers
+    /// without a sign, in the corners' order.
     fn key(self, corner: Corner) -> u64
         ensures { IsKey self corner result }
     {
@@ -56,7 +57,7 @@ pub struct Sorted<A: Allocator> {
 ///
 /// # Errors
 ///
-/// [`AllocError`] where an allocation is refused.
+/// [`AllocError`] where an allocation fails.
 pub fn sorted_of<A: Allocator + Copy>(
     alloc: A,
     corners: &[Corner],

@@ -1,6 +1,7 @@
 //! Triangles of positive area, and lists of them.
 
-ghost use Rattle.std.specs.Prelude.{◌≡◌, ◌↔◌, pos, ◌<ℤ◌, IsSome, IfSome, IfOk, OnOk, OnErr, ◌++◌, ◌∷◌, [], length, IsTrue};
+ghost use Rattle.std.specs.Prelude.{◌≡◌, ◌↔◌, pos, ◌<ℤ◌, IsSome, IfSome, IfOk, OnOk, OnErr, ◌++◌, ◌∷◌};
+ghost use Rattle.std.specs.Prelude.{[], length, IsTrue};
 ghost use Rattle.geo_exact.specs.Turn.{turn as turn_of};
 
 use geo_exact::{Corner, turn};
@@ -67,7 +68,7 @@ impl<A: Allocator> Triangles<A> {
     ///
     /// # Errors
     ///
-    /// [`AllocError`] where an allocation is refused.
+    /// [`AllocError`] where an allocation fails.
     pub fn with_capacity(alloc: A, capacity: usize) -> Result<Triangles<A>, AllocError>
         ensures { IfOk result (λ triangles. triangles ≡ []) }
     {
@@ -79,7 +80,7 @@ impl<A: Allocator> Triangles<A> {
     ///
     /// # Errors
     ///
-    /// [`AllocError`] where an allocation is refused.
+    /// [`AllocError`] where an allocation fails.
     pub fn push(&mut self, tri: Tri) -> Result<(), AllocError>
         ensures ok { OnOk result (self.new ≡ self.old ++ tri ∷ []) }
         ensures err { OnErr result (self.new ≡ self.old) }

@@ -11,6 +11,10 @@ pub mod PutNets
 pub mod PutLoops
 pub mod PutGround
 pub mod Straight
+pub mod OneMore
+pub mod StaySimple
+pub mod Passing
+pub mod BentAlike
 pub mod OneEdge
 pub mod OneResult
 pub mod Lengths

@@ -68,12 +68,12 @@ lacking_stays at ring h = without_none at ring (not_so (has_corner at ring) h)
     not_so false k = refl
 
 -- another corner stays
-keeps : (at c : Corner) (cs : List Corner) → (at ≡ c → ⊥) → without_corner at (c ∷ cs) ≡ c ∷ without_corner at cs
+pub keeps : (at c : Corner) (cs : List Corner) → (at ≡ c → ⊥) → without_corner at (c ∷ cs) ≡ c ∷ without_corner at cs
 keeps at c cs h =
     ap (λ b. cond (not b) (c ∷ without_corner at cs) (without_corner at cs)) (false_where (is_same at c) (Decides-is_same at c) h)
 
 -- and the corner itself goes
-drops : (at c : Corner) (cs : List Corner) → at ≡ c → without_corner at (c ∷ cs) ≡ without_corner at cs
+pub drops : (at c : Corner) (cs : List Corner) → at ≡ c → without_corner at (c ∷ cs) ≡ without_corner at cs
 drops at c cs h =
     ap (λ b. cond (not b) (c ∷ without_corner at cs) (without_corner at cs)) ((Decides-is_same at c).1 h)
 
@@ -103,7 +103,7 @@ straight_more at from c to (x ∷ rest) h k =
     front (y ∷ ys) = refl
 
 -- ---- where the ring does not bend
-inside_at : (at : Corner) (ring : List Corner) → ¬ BendsAt at ring → (k : ℕ) → k < length ring → corner_at ring k ≡ at
+pub inside_at : (at : Corner) (ring : List Corner) → ¬ BendsAt at ring → (k : ℕ) → k < length ring → corner_at ring k ≡ at
     → IsStrictlyInside at (corner_at ring (before (length ring) k)) (corner_at ring (after (length ring) k))
 inside_at at ring h k b e =
     let p = corner_at ring (before (length ring) k) in let q = corner_at ring (after (length ring) k) in

@@ -1,5 +1,5 @@
--- What each edit makes of rings (this product's own). Each new ring is given by its corners as they are joined, and begun at its least;
--- `put_between` alone is not begun anew.
+-- What each edit makes of rings (this product's own). Each new ring is given by its corners as they are joined, and
+-- begun at its least; `put_between` alone is not begun anew.
 use Rattle.std.specs.Prelude.{◌≡◌, ◌≢◌, ◌↔◌, ℕ, ◌<◌, ◌≤◌, Bool, ◌||◌, not, if◌then◌else◌, List, []}
 use Rattle.std.specs.Prelude.{◌∷◌, ◌++◌, reverse, length}
 use Rattle.std.specs.List.{Contains, AllByRecursion, list_any, filter}
@@ -33,8 +33,8 @@ pub record IsPathAcross (ring corners : List Corner) : Type 0 where
   pub has_from : Contains ring from
   pub has_to : Contains ring to
 
--- the path cuts the ring in two: left of it the path and the run from its last corner on to its first, right of it the run from
--- its first corner on to its last and the path backwards
+-- the path cuts the ring in two: left of it the path and the run from its last corner on to its first, right of it the
+-- run from its first corner on to its last and the path backwards
 pub record IsSplit (ring corners left right : List Corner) : Type 0 where
   pub from : Corner
   pub between : List Corner
@@ -60,7 +60,8 @@ put_along from to at [] = []
 put_along from to at (edge ∷ rest) =
     edge.from ∷ (if joins from to edge then at ∷ put_along from to at rest else put_along from to at rest)
 
--- the ring with `at` put into each of its edges between `from` and `to`, in either direction; its first corner stays first
+-- the ring with `at` put into each of its edges between `from` and `to`, in either
+-- direction; its first corner stays first
 abbrev pub put_between : (from to at : Corner) → List Corner → List Corner
 put_between from to at ring = put_along from to at (edges ring)
 
@@ -68,8 +69,8 @@ put_between from to at ring = put_along from to at (edges ring)
 abbrev pub with_corner : (from to at : Corner) → List Corner → List Corner
 with_corner from to at ring = begun_at_least (put_between from to at ring)
 
--- the other ring covers what the ring covers: it goes round each rational point as often, has the same points on its edges, and the
--- same area
+-- the other ring covers what the ring covers: it goes round each rational point as often, has the same points on its
+-- edges, and the same area
 pub record CoversAlike (ring other : List Corner) : Type 0 where
   pub winding_number : (p : Point) → winding p other ≡ winding p ring
   pub boundary : (p : Point) → IsOnRing p other ↔ IsOnRing p ring
@@ -87,9 +88,10 @@ AreNeighbours a b = (k : ℕ) × (k < length a) × IsSharedAt a b k
 abbrev pub IsSharedWith : List Corner → Edge → Type 0
 IsSharedWith b edge = HasEdge b edge.to edge.from
 
--- the edges of ring a that ring b shares are those of one run, which goes from u to another corner v in a's direction, by the
--- corners `onward`; the others go on by the corners `back` to u
-pub record IsShared (a b : List Corner) (u : Corner) (onward : List Corner) (v : Corner) (back : List Corner) : Type 0 where
+-- the edges of ring a that ring b shares are those of one run, which goes from u to another corner v in a's direction,
+-- by the corners `onward`; the others go on by the corners `back` to u
+pub record IsShared (a b : List Corner) (u : Corner) (onward : List Corner) (v : Corner)
+    (back : List Corner) : Type 0 where
   pub round : GoesRound a u onward v back
   pub shared : AllByRecursion (IsSharedWith b) (path u onward v)
   pub others_not : AllByRecursion (λ edge. ¬ IsSharedWith b edge) (path v back u)
@@ -123,14 +125,16 @@ pub record IsMerge (a b out : List Corner) : Type 0 where
 
 -- the path does not go from where the shared run begins to where it ends
 abbrev pub IsBadBorder : List Corner → List Corner → List Corner → Type 0
-IsBadBorder a b corners = (u : Corner) × (v : Corner) × IsSharedRun a b u v × ((between : List Corner) → ¬ IsPath corners u between v)
+IsBadBorder a b corners =
+    (u : Corner) × (v : Corner) × IsSharedRun a b u v × ((between : List Corner) → ¬ IsPath corners u between v)
 
 -- the path goes from where the shared run begins to where it ends
 abbrev pub IsBorderPath : List Corner → List Corner → List Corner → Type 0
-IsBorderPath a b corners = (u : Corner) × (v : Corner) × (between : List Corner) × IsSharedRun a b u v × IsPath corners u between v
+IsBorderPath a b corners =
+    (u : Corner) × (v : Corner) × (between : List Corner) × IsSharedRun a b u v × IsPath corners u between v
 
--- a and b with the shared run exchanged for the path: for a the path and then a's walk from v on to u, for b the path backwards
--- and then b's walk from u on to v
+-- a and b with the shared run exchanged for the path: for a the path and then a's walk from v on to u, for b the path
+-- backwards and then b's walk from u on to v
 pub record IsMove (a b corners out_a out_b : List Corner) : Type 0 where
   pub u : Corner
   pub v : Corner
@@ -163,4 +167,5 @@ pub record BendsAt (at : Corner) (ring : List Corner) : Type 0 where
   pub place : ℕ
   pub in_ring : place < length ring
   pub is_there : corner_at ring place ≡ at
-  pub is_not_flat : ¬ IsStrictlyInside at (corner_at ring (before (length ring) place)) (corner_at ring (after (length ring) place))
+  pub is_not_flat : ¬ IsStrictlyInside at (corner_at ring (before (length ring) place))
+      (corner_at ring (after (length ring) place))

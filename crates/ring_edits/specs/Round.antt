@@ -1,4 +1,5 @@
--- Going round a ring (OGC 06-103r4, 6.1.7, LinearRing: closed, so that where its list of corners begins says nothing of it).
+-- Going round a ring (OGC 06-103r4, 6.1.7, LinearRing: closed, so that where its list
+-- of corners begins says nothing of it).
 use Rattle.std.specs.Prelude.{◌≡◌, ◌≢◌, ℕ, ◌<◌, ◌≤◌, List, ◌∷◌, ◌++◌, length}
 use Rattle.geo_exact.specs.declared.corner.Corner.{Corner}
 use Rattle.geo_exact.specs.Rings.{begun_at}
@@ -6,7 +7,8 @@ use Rattle.geo_exact.specs.Places.{corner_at, after}
 
 -- round the ring come u, then the corners `onward`, then v, then the corners `back`, and then u again:
 -- the ring's run from u on to v is u, `onward`, v; its run from v on to u is v, `back`, u
-pub record GoesRound (ring : List Corner) (u : Corner) (onward : List Corner) (v : Corner) (back : List Corner) : Type 0 where
+pub record GoesRound (ring : List Corner) (u : Corner) (onward : List Corner) (v : Corner)
+    (back : List Corner) : Type 0 where
   pub start : ℕ
   pub within : start < length ring
   pub round : begun_at start ring ≡ u ∷ onward ++ v ∷ back

@@ -33,7 +33,8 @@ pub fn insert<A: Allocator + Copy>(
     to: Corner,
     at: Corner,
 ) -> Result<Option<Corners<A>>, AllocError>
-    ensures none { IfOk result (λ found. IsNone found ↔ ((from ≡ to) ⊎ (¬ IsTrue (has_edge_between from to ring.now)))) }
+    ensures none { IfOk result (λ found. IsNone found
+        ↔ ((from ≡ to) ⊎ (¬ IsTrue (has_edge_between from to ring.now)))) }
     ensures some { IfOk result (λ found. IfSome found (λ out. out ≡ with_corner from to at ring.now)) }
 {
     let Some(mut corners) = put_into(alloc, ring, from, to, at)? else {
@@ -56,7 +57,8 @@ pub fn put_into<A: Allocator + Copy>(
     to: Corner,
     at: Corner,
 ) -> Result<Option<Corners<A>>, AllocError>
-    ensures none { IfOk result (λ found. IsNone found ↔ ((from ≡ to) ⊎ (¬ IsTrue (has_edge_between from to ring.now)))) }
+    ensures none { IfOk result (λ found. IsNone found
+        ↔ ((from ≡ to) ⊎ (¬ IsTrue (has_edge_between from to ring.now)))) }
     ensures some { IfOk result (λ found. IfSome found (λ out. out ≡ put_between from to at ring.now)) }
 {
     if are_same(from, to) || !has_edge(ring, from, to) {

@@ -1,17 +1,21 @@
 //! Laws: an edit's new rings have the net edges of the old.
 
 ghost use Rattle.std.specs.Prelude.{◌≡◌, ◌≢◌, ◌↔◌, ℕ, ◌+◌, ◌<◌, ◌≤◌, IsTrue, List, [], ◌∷◌, length, map};
+ghost use Rattle.std.specs.List.{AllByRecursion};
 ghost use Rattle.geo_exact.specs.declared.bounds.Bounds.{Bounds};
 ghost use Rattle.geo_exact.specs.declared.corner.Corner.{Corner};
 ghost use Rattle.geo_exact.specs.Bounds.{IsLeastBox};
 ghost use Rattle.geo_exact.specs.Places.{corner_at};
+ghost use Rattle.geo_exact.specs.Point.{Point};
 ghost use Rattle.geo_exact.specs.Rings.{begun_at_least};
 ghost use Rattle.geo_exact.specs.Segments.{IsStrictlyInside};
+ghost use Rattle.geo_exact.specs.Winding.{winding};
 ghost use Rattle.ring_core.specs.Clipping.{IsFlat};
 ghost use Rattle.ring_core.specs.Simple.{IsSimpleRing};
-ghost use Rattle.edge_chains.specs.Net.{net_count};
-ghost use Rattle.ring_edits.specs.Edits.{IsSplit, IsMerge, IsMove, CoversAlike, has_edge_between, put_between, with_corner};
-ghost use Rattle.ring_edits.specs.Edits.{BendsAt, has_corner, straightened, without_corner};
+ghost use Rattle.edge_chains.specs.Net.{net_count, winding_of_rings};
+ghost use Rattle.edge_chains.specs.Noding.{IsNoded};
+ghost use Rattle.ring_edits.specs.Edits.{IsSplit, IsMerge, IsMove, CoversAlike, has_edge_between, put_between};
+ghost use Rattle.ring_edits.specs.Edits.{with_corner, BendsAt, has_corner, straightened, without_corner};
 ghost use Rattle.ring_edits.specs.Round.{HasApartCorners};
 
 /// The rings that an edit makes have, for every two corners, the net number of directed edges from the one to the
@@ -61,7 +65,8 @@ pub fn inserting_keeps_the_least_box()
 /// inside an edge, and stays as it is where it has no such edge. (What is begun at its least corner
 /// begins there.)
 pub fn inserting_keeps_where_a_ring_begins()
-    ensures begun { (from to at : Corner) (ring : List Corner) → IsStrictlyInside at from to → begun_at_least ring ≡ ring
+    ensures begun { (from to at : Corner) (ring : List Corner) → IsStrictlyInside at from to
+        → begun_at_least ring ≡ ring
         → with_corner from to at ring ≡ put_between from to at ring }
     ensures unchanged { (from to at : Corner) (ring : List Corner) → ¬ IsTrue (has_edge_between from to ring)
         → put_between from to at ring ≡ ring }
@@ -95,6 +100,25 @@ pub fn a_simple_ring_bends_where_a_corner_is_not_flat()
         → BendsAt (corner_at ring k) ring ↔ (¬ IsFlat ring k) }
 {}
 
+/// A simple ring stays simple where it is noded, for whatever corners; where a corner that lies strictly between two
+/// others is put into its edge between them; and where a corner is taken out at which it is straight.
+pub fn simple_rings_stay_simple()
+    ensures noded { (ring corners noded : List Corner) → IsSimpleRing ring → IsNoded ring corners noded
+        → IsSimpleRing noded }
+    ensures put { (from to at : Corner) (ring : List Corner) → IsStrictlyInside at from to → IsSimpleRing ring
+        → IsSimpleRing (put_between from to at ring) }
+    ensures taken { (at : Corner) (ring : List Corner) → ¬ BendsAt at ring → IsSimpleRing ring
+        → IsSimpleRing (without_corner at ring) }
+{}
+
+/// A simple ring bends at no corner where none of some rings bends, if these together go round each point as often as
+/// it does: a city bends only where one of the parcels bends that tile it.
+pub fn a_simple_ring_bends_only_with_its_parts()
+    ensures { (at : Corner) (rings : List (List Corner)) (city : List Corner) → IsSimpleRing city
+        → ((p : Point) → winding_of_rings p rings ≡ winding p city)
+        → AllByRecursion (λ ring. ¬ BendsAt at ring) rings → ¬ BendsAt at city }
+{}
+
 /// A simple ring has three corners and more, at different places.
 #[tactic(auto, using(crate::proofs::Apart::has_apart_corners))]
 pub fn a_simple_ring_has_its_corners_apart()
@@ -107,8 +131,10 @@ pub fn each_edit_has_one_result()
     ensures split { (ring path left right other_left other_right : List Corner) → HasApartCorners ring
         → IsSplit ring path left right → IsSplit ring path other_left other_right
         → (other_left ≡ left) × (other_right ≡ right) }
-    ensures merged { (a b out other : List Corner) → HasApartCorners b → IsMerge a b out → IsMerge a b other → other ≡ out }
-    ensures moved { (a b path out_a out_b other_a other_b : List Corner) → HasApartCorners b → IsMove a b path out_a out_b
+    ensures merged { (a b out other : List Corner) → HasApartCorners b → IsMerge a b out
+        → IsMerge a b other → other ≡ out }
+    ensures moved { (a b path out_a out_b other_a other_b : List Corner) → HasApartCorners b
+        → IsMove a b path out_a out_b
         → IsMove a b path other_a other_b → (other_a ≡ out_a) × (other_b ≡ out_b) }
 {}
 
@@ -123,7 +149,8 @@ pub fn new_rings_have_so_many_corners()
         → (length left + 2 ≤ length ring + length path) × (length right + 2 ≤ length ring + length path) }
     ensures inserted { (ring : List Corner) (from to at : Corner) → HasApartCorners ring → from ≢ to
         → IsTrue (has_edge_between from to ring) → length (put_between from to at ring) ≡ length ring + 1 }
-    ensures not_fewer { (ring : List Corner) (from to at : Corner) → length ring ≤ length (put_between from to at ring) }
+    ensures not_fewer { (ring : List Corner) (from to at : Corner)
+        → length ring ≤ length (put_between from to at ring) }
     ensures begun { (ring : List Corner) (from to at : Corner)
         → length (with_corner from to at ring) ≡ length (put_between from to at ring) }
     ensures straightened { (at : Corner) (ring : List Corner) → length (straightened at ring) ≤ length ring }

@@ -18,8 +18,8 @@ pub const FIVE: &str =
     "insert 0 0 60 0 30 0\ninsert 0 100 60 100 30 100\nsplit 1 30 0 30 100\nsplit 1 30 0 30 100\nmerge 3 4\n";
 
 /// What is reported of them.
-pub const FIVE_TOLD: &str =
-    "clerk 1 line 1 ok 1\nclerk 1 line 2 ok 2\nclerk 1 line 3 ok 3\nclerk 1 line 4 refused E2 1 3\nclerk 1 line 5 ok 4\n";
+pub const FIVE_TOLD: &str = "clerk 1 line 1 ok 1\nclerk 1 line 2 ok 2\nclerk 1 line 3 ok 3\n\
+     clerk 1 line 4 refused E2 1 3\nclerk 1 line 5 ok 4\n";
 
 /// What a run in millimetres is given: the files of a city and of its parcels, and clerks' files of these texts.
 pub fn run_files(
@@ -83,12 +83,14 @@ const ROWS: [Row; 14] = [
             "# nothing\n",
             "\nmerge 8 9",
         ],
-        "clerk 1 line 1 ok 1\nclerk 1 line 2 refused E2 2 1\nclerk 1 line 3 refused E2 1 1\nclerk 3 line 2 refused E1 8\ntiling 1 20000\n",
+        "clerk 1 line 1 ok 1\nclerk 1 line 2 refused E2 2 1\nclerk 1 line 3 refused E2 1 1\n\
+         clerk 3 line 2 refused E1 8\ntiling 1 20000\n",
     ),
     (
         false,
         &["merge 9 1\nmerge 1 1", "split 1 0 0\nsplit 1 0 0 50 50"],
-        "clerk 1 line 1 refused E1 9\nclerk 1 line 2 refused E4\nclerk 2 line 1 refused E3\nclerk 2 line 2 refused E3\ntiling 2 20000\n",
+        "clerk 1 line 1 refused E1 9\nclerk 1 line 2 refused E4\n\
+         clerk 2 line 1 refused E3\nclerk 2 line 2 refused E3\ntiling 2 20000\n",
     ),
     (
         false,

@@ -1,5 +1,5 @@
 //! Tests of runs: what they print and write, what clerks' edits lead to, which zones overlap, and what a run answers
-//! whose growths are refused.
+//! whose allocations are refused.
 #![tactic(auto)]
 
 #[cfg(test)]
@@ -15,6 +15,6 @@ mod part_runs;
 #[cfg(test)]
 mod point_lines;
 #[cfg(test)]
-mod refused_areas;
+mod refused_allocations;
 #[cfg(test)]
-mod refused_growths;
+mod refused_areas;

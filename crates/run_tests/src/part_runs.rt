@@ -5,7 +5,8 @@ use crate::edit_runs::run_files;
 use city_layers::Source;
 use geo_exact::{Counted, Unit};
 use parcel_runs::check::check;
-use parcel_runs::part::{WrittenPart, part, parts};
+use parcel_runs::export::Exported;
+use parcel_runs::part::{part, parts};
 use std::alloc::{AllocError, Global};
 use std::sync::Wait;
 use std::test::Fail;
@@ -26,7 +27,7 @@ const STRIPS: [&[Place]; 2] = [
 ];
 
 /// The files that were written, as the source of a layer.
-fn source_of(alloc: Global, written: &WrittenPart<&Global>) -> Result<Source<Global>, AllocError> {
+fn source_of(alloc: Global, written: &Exported<&Global>) -> Result<Source<Global>, AllocError> {
     Ok(Source {
         main: Vec::from_slice(alloc, &written.main)?,
         index: Some(Vec::from_slice(alloc, &written.index)?),
@@ -37,7 +38,7 @@ fn source_of(alloc: Global, written: &WrittenPart<&Global>) -> Result<Source<Glo
 fn checked<R: Threads + Wait + Sync>(
     rt: &R,
     alloc: Global,
-    written: &WrittenPart<&Global>,
+    written: &Exported<&Global>,
     parcels: &[&[Place]],
 ) -> Result<String, AllocError> {
     let city = source_of(alloc, written)?;
@@ -50,8 +51,8 @@ fn checked<R: Threads + Wait + Sync>(
     }
 }
 
-/// The ring of a city; the rings of its districts, or no corner for a null shape; the number that is asked for; and what
-/// is printed.
+/// The ring of a city; the rings of its districts, or no corner for a null shape; the number that is asked for; and
+/// what is printed.
 type Row = (
     &'static [Place],
     &'static [&'static [Place]],
@@ -90,7 +91,7 @@ fn tells_the_area_or_why_not(rt: HostRuntime) -> Result<(), Fail> {
         let city = alone(layer(alloc, &[*city])?);
         let districts = alone(layer(alloc, districts)?);
         let told = match part(&rt, 2, &alloc, &city, &districts, Unit::Mm, *id) {
-            Ok(written) => String::from_utf8_lossy(alloc, &written.line)?,
+            Ok(written) => String::from_utf8_lossy(alloc, &written.lines)?,
             Err(fault) => format!(in alloc; "error: {fault}")?,
         };
         assert_eq!(rt; told.as_str(), *want);
@@ -163,14 +164,14 @@ fn writes_all_as_each_alone(rt: HostRuntime) -> Result<(), Fail> {
                 return Err(Fail::new("districts that tile their city"));
             };
             assert_eq!(rt; all.len(), numbers.len());
-            for (written, number) in all.iter().zip(numbers) {
+            for ((id, written), number) in all.iter().zip(numbers) {
                 let Ok(single) = part(&rt, 1, &alloc, &city, &districts, Unit::Mm, *number) else {
                     return Err(Fail::new("a district that there is"));
                 };
-                assert_eq!(rt; written.id, *number);
+                assert_eq!(rt; *id, *number);
                 assert_eq!(rt; written.main.as_slice(), single.main.as_slice());
                 assert_eq!(rt; written.index.as_slice(), single.index.as_slice());
-                assert_eq!(rt; written.line.as_slice(), single.line.as_slice());
+                assert_eq!(rt; written.lines.as_slice(), single.lines.as_slice());
             }
         }
     }

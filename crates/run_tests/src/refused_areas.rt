@@ -1,5 +1,5 @@
-//! Each growth of an overlay with areas refused in turn: its answer is that memory ran out, nothing was printed, and the
-//! same run with memory prints what it has to print.
+//! Each allocation of an overlay with areas refused in turn: its answer is that memory ran out, nothing was printed,
+//! and the same run with memory prints what it has to print.
 
 use crate::edit_runs::run_files;
 use area_runs::overlay_areas;
@@ -13,7 +13,7 @@ use std::test::Fail;
 use std::thread::Threads;
 use test_layers::{CITY, EAST, Place, WEST, alone, layer};
 
-/// No run here has so many growths.
+/// No run here makes so many allocations.
 const MOST: u64 = 1000;
 
 /// The heap of the runs here.
@@ -27,8 +27,8 @@ const STRIPS: [&[Place]; 3] = [
 ];
 
 /// What is printed for the two rectangles and the strips.
-const PRINTED: &str =
-    "entries 0\npair 1 1\npair 1 2\npair 1 3\npair 2 3\nsplit 1\nwithin 2 3\narea 1 1 4000\narea 1 2 6000\narea 1 3 2000\narea 2 3 8000\n";
+const PRINTED: &str = "entries 0\npair 1 1\npair 1 2\npair 1 3\npair 2 3\nsplit 1\nwithin 2 3\n\
+     area 1 1 4000\narea 1 2 6000\narea 1 3 2000\narea 2 3 8000\n";
 
 /// The files of the runs.
 struct Inputs<'h> {
@@ -74,8 +74,8 @@ fn is_whole(answer: &Result<(), ToolFault<'static>>, printed: &[u8]) -> bool {
     *answer == Ok(()) && printed == PRINTED.as_bytes()
 }
 
-/// Whether the run with this growth refused answers that memory ran out, with nothing printed, and the same run with
-/// memory then prints all; where there was no such growth, `None`, once it printed all.
+/// Whether the run with this allocation refused answers that memory ran out, with nothing printed, and the same run
+/// with memory then prints all; where there was no such allocation, `None`, once it printed all.
 fn is_told<'h, R: Threads + Wait + Sync>(
     rt: &R,
     alloc: Global,
@@ -107,19 +107,19 @@ fn is_told<'h, R: Threads + Wait + Sync>(
 }
 
 #[test]
-fn tells_each_refused_growth_of_areas(rt: HostRuntime) -> Result<(), Fail> {
+fn tells_each_refused_allocation_of_areas(rt: HostRuntime) -> Result<(), Fail> {
     let heap = &Refusing::new(rt.alloc(), 0);
     let inputs = inputs_in(heap, rt.alloc())?;
     for is_shared in [false, true] {
-        let mut growths = 0u64;
+        let mut allocations = 0u64;
         for number in 1..MOST {
             match is_told(&rt, rt.alloc(), is_shared, &inputs, number) {
-                Some(is_so) => assert!(rt; is_so, "at growth {number}"),
+                Some(is_so) => assert!(rt; is_so, "at allocation {number}"),
                 None => break,
             }
-            growths = number;
+            allocations = number;
         }
-        assert!(rt; growths > 1 && growths < MOST - 1);
+        assert!(rt; allocations > 1 && allocations < MOST - 1);
     }
     Ok(())
 }

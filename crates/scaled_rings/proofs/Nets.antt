@@ -34,7 +34,8 @@ near_all_edges [] h = tt
 near_all_edges (ring ∷ rings) h = near_edges_append (edges ring) (all_edges rings) (near_edges ring h.0) (near_all_edges rings h.1)
 
 -- ---- an edge, ten times, runs between two corners, ten times, where it ran between them
-pub runs_ten : (a b : Corner) (e : Edge) → IsNear a → IsNear b → IsNearEdge e → runs_from_to (ten a) (ten b) (ten_edge e) ≡ runs_from_to a b e
+pub runs_ten : (a b : Corner) (e : Edge) → IsNear a → IsNear b → IsNearEdge e
+    → runs_from_to (ten a) (ten b) (ten_edge e) ≡ runs_from_to a b e
 runs_ten a b e h k n = let p = ten_same e.from a n.from h in let q = ten_same e.to b n.to k in cc
 
 counts_ten : (es : List Edge) (a b : Corner) → AreNearEdges es → IsNear a → IsNear b

@@ -18,7 +18,8 @@ next_at ring i = ap (λ n. corner_at (map ten ring) (after n i)) (length-map rin
 
 on_at : (p : Point) (ring : List Corner) (i : ℕ) → AreNear ring → IsOnEdgeAt p (map ten ring) i → IsOnEdgeAt (tenth p) ring i
 on_at p ring i h e =
-    (on_edge_ten (corner_at ring i) (corner_at ring (after (length ring) i)) p (near_at ring i h) (near_at ring (after (length ring) i) h)).0
+    (on_edge_ten (corner_at ring i) (corner_at ring (after (length ring) i)) p (near_at ring i h)
+    (near_at ring (after (length ring) i) h)).0
     (subst (λ c. IsOnEdge p c (ten (corner_at ring (after (length ring) i)))) (at_ten ring i)
     (subst (λ c. IsOnEdge p (corner_at (map ten ring) i) c) (next_at ring i) e))
 

@@ -15,7 +15,8 @@ use Rattle.ring_edits.specs.Edits.{IsSharedWith, IsShared, IsMerge, IsMove, has_
 use Rattle.scaled_rings.specs.Tenfold.{IsNear}
 use Rattle.scaled_rings.proofs.Scaling.{ten, ten_apart, ten_same, AreNear}
 use Rattle.scaled_rings.proofs.Lists.{ten_edge, IsNearEdge, AreNearEdges, edges_ten, paths_ten, near_edges, near_path}
-use Rattle.scaled_rings.proofs.Lists.{at_ten, near_at, near_left, near_right, near_append, near_begun, begun_ten, begun_least_ten, reverse_ten}
+use Rattle.scaled_rings.proofs.Lists.{at_ten, near_at, near_left, near_right, near_append, near_begun}
+use Rattle.scaled_rings.proofs.Lists.{begun_ten, begun_least_ten, reverse_ten}
 use Rattle.scaled_rings.proofs.Nets.{runs_ten}
 use Rattle.scaled_rings.proofs.Points.{strictly_ten}
 
@@ -181,7 +182,8 @@ move_ten a b corners out_a out_b n m l h =
     }
 
 -- ---- a corner put into an edge
-joins_ten : (from to : Corner) (e : Edge) → IsNear from → IsNear to → IsNearEdge e → joins (ten from) (ten to) (ten_edge e) ≡ joins from to e
+joins_ten : (from to : Corner) (e : Edge) → IsNear from → IsNear to → IsNearEdge e
+    → joins (ten from) (ten to) (ten_edge e) ≡ joins from to e
 joins_ten from to e h k n = let p = runs_ten from to e h k n in let q = runs_ten to from e k h n in cc
 
 any_joins : (from to : Corner) (es : List Edge) → IsNear from → IsNear to → AreNearEdges es
@@ -242,7 +244,8 @@ without_corner_ten at (x ∷ xs) h n =
     either (is_same (ten at) (ten x)) (is_same at x) (without_corner (ten at) (map ten xs)) (without_corner at xs)
     (ten_same at x h n.0) (without_corner_ten at xs h n.1)
   where
-    either : (p q : Bool) (ys zs : List Corner) → p ≡ q → ys ≡ map ten zs → cond (not p) (ten x ∷ ys) ys ≡ map ten (cond (not q) (x ∷ zs) zs)
+    either : (p q : Bool) (ys zs : List Corner) → p ≡ q → ys ≡ map ten zs
+        → cond (not p) (ten x ∷ ys) ys ≡ map ten (cond (not q) (x ∷ zs) zs)
     either true true ys zs e f = f
     either true false ys zs e f = cc
     either false true ys zs e f = cc

@@ -1,4 +1,5 @@
--- Corners and rings, each coordinate times ten (this product's own: a register of a coarser grid, moved to the finer one).
+-- Corners and rings, each coordinate times ten (this product's own: a register of a
+-- coarser grid, moved to the finer one).
 use Rattle.std.specs.Prelude.{◌≡◌, ℕ, pos, ◌*ℤ◌, List, IsTrue, Option, None, Some}
 use Rattle.std.specs.List.{AllByRecursion, AllZip, Contains}
 use Rattle.std.specs.Int.RustNames.{unsigned_abs}
@@ -20,18 +21,30 @@ AreTenTimes corners others = AllZip IsTenTimes corners others
 abbrev pub near_limit : ℕ
 near_limit = unsigned_abs NEAR_LIMIT
 
+-- the corner is at most so far from 0 along each axis
+pub record IsUpTo (most : ℕ) (corner : Corner) : Type 0 where
+  pub in_x : IsWithin most corner.x
+  pub in_y : IsWithin most corner.y
+
 -- the corner is within the limit ten times over
-pub record IsNear (corner : Corner) : Type 0 where
-  pub in_x : IsWithin near_limit corner.x
-  pub in_y : IsWithin near_limit corner.y
+abbrev pub IsNear : Corner → Type 0
+IsNear corner = IsUpTo near_limit corner
+
+-- the corner is the least, by x and then by y, of those of the corners that are further from 0
+pub record IsLeastBeyond (most : ℕ) (corners : List Corner) (corner : Corner) : Type 0 where
+  pub is_one : Contains corners corner
+  pub is_far : ¬ IsUpTo most corner
+  pub is_least : (other : Corner) → Contains corners other → ¬ IsUpTo most other → ¬ IsTrue (is_before other corner)
+
+-- it is told, where there is one; else none is further
+abbrev pub IsLeastBeyondOf : ℕ → List Corner → Option Corner → Type 0
+IsLeastBeyondOf most corners None = AllByRecursion (IsUpTo most) corners
+IsLeastBeyondOf most corners (Some corner) = IsLeastBeyond most corners corner
 
 -- the corner is the least, by x and then by y, of those of the corners that are not near
-pub record IsLeastFar (corners : List Corner) (corner : Corner) : Type 0 where
-  pub is_one : Contains corners corner
-  pub is_far : ¬ IsNear corner
-  pub is_least : (other : Corner) → Contains corners other → ¬ IsNear other → ¬ IsTrue (is_before other corner)
+abbrev pub IsLeastFar : List Corner → Corner → Type 0
+IsLeastFar corners corner = IsLeastBeyond near_limit corners corner
 
 -- it is told, where there is one; else all are near
 abbrev pub IsLeastFarOf : List Corner → Option Corner → Type 0
-IsLeastFarOf corners None = AllByRecursion IsNear corners
-IsLeastFarOf corners (Some corner) = IsLeastFar corners corner
+IsLeastFarOf corners found = IsLeastBeyondOf near_limit corners found

@@ -4,20 +4,17 @@ ghost use Rattle.std.specs.Prelude.{◌≡◌, ◌↔◌, ◌∷◌, [], ◌++�
 ghost use Rattle.geo_exact.specs.Order.{is_before};
 ghost use Rattle.std.specs.List.{AllByRecursion};
 ghost use Rattle.geo_exact.specs.declared.corner.Corner.{Corner as CornerValue};
-ghost use Rattle.scaled_rings.specs.Tenfold.{IsNear, IsTenTimes, AreTenTimes, IsLeastFarOf};
+ghost use Rattle.scaled_rings.specs.Tenfold.{IsNear, IsTenTimes, AreTenTimes, IsUpTo, IsLeastBeyondOf, IsLeastFarOf};
 
 use crate::limits::NEAR_LIMIT;
 use geo_exact::{Corner, Corners, comes_before};
 use std::alloc::{AllocError, Allocator};
 
-/// Whether the corner is within the limit ten times over.
-fn is_near(corner: Corner) -> bool
-    ensures { IsTrue result ↔ IsNear corner }
+/// Whether the corner is at most so far from 0 along each axis.
+pub fn is_up_to(corner: Corner, most: u64) -> bool
+    ensures { IsTrue result ↔ IsUpTo most corner }
 {
-    -NEAR_LIMIT <= corner.x
-        && corner.x <= NEAR_LIMIT
-        && -NEAR_LIMIT <= corner.y
-        && corner.y <= NEAR_LIMIT
+    corner.x.unsigned_abs() <= most && corner.y.unsigned_abs() <= most
 }
 
 /// The corner, each coordinate times ten.
@@ -35,7 +32,7 @@ pub fn tenfold(corner: Corner) -> Corner
 ///
 /// # Errors
 ///
-/// [`AllocError`] where an allocation is refused.
+/// [`AllocError`] where an allocation fails.
 pub fn tenfold_all<A: Allocator>(alloc: A, corners: &[Corner]) -> Result<Corners<A>, AllocError>
     requires { AllByRecursion IsNear corners.now }
     ensures { IfOk result (λ others. AreTenTimes corners.now others) }
@@ -58,11 +55,12 @@ fn lesser(corner: Corner, other: Corner) -> Corner
     }
 }
 
-/// Of a corner and one found before, the one to be told: the lesser of those that are not near.
-fn lesser_far(corner: Corner, found: Option<Corner>) -> Option<Corner>
-    ensures { (corners : List CornerValue) → IsLeastFarOf corners found → IsLeastFarOf (corners ++ corner ∷ []) result }
+/// Of a corner and one found before, the one to be told: the lesser of those that are further from 0.
+fn lesser_beyond(most: u64, corner: Corner, found: Option<Corner>) -> Option<Corner>
+    ensures { (corners : List CornerValue) → IsLeastBeyondOf most corners found
+        → IsLeastBeyondOf most (corners ++ corner ∷ []) result }
 {
-    if is_near(corner) {
+    if is_up_to(corner, most) {
         return found;
     }
     match found {
@@ -71,13 +69,21 @@ fn lesser_far(corner: Corner, found: Option<Corner>) -> Option<Corner>
     }
 }
 
+/// The least, by `x` and then by `y`, of the corners that are further from 0 along an axis, and of one found before.
+pub fn least_beyond(most: u64, corners: &[Corner], found: Option<Corner>) -> Option<Corner>
+    ensures { (before : List CornerValue) → IsLeastBeyondOf most before found
+        → IsLeastBeyondOf most (before ++ corners.now) result }
+{
+    let mut least = found;
+    for corner in corners {
+        least = lesser_beyond(most, *corner, least);
+    }
+    least
+}
+
 /// The least, by `x` and then by `y`, of the corners that are not near, and of one found before.
 pub fn least_far(corners: &[Corner], found: Option<Corner>) -> Option<Corner>
     ensures { (before : List CornerValue) → IsLeastFarOf before found → IsLeastFarOf (before ++ corners.now) result }
 {
-    let mut least = found;
-    for corner in corners {
-        least = lesser_far(*corner, least);
-    }
-    least
+    least_beyond(NEAR_LIMIT.unsigned_abs(), corners, found)
 }

@@ -15,7 +15,7 @@ use std::alloc::{AllocError, Allocator};
 ///
 /// # Errors
 ///
-/// [`AllocError`] where an allocation is refused.
+/// [`AllocError`] where an allocation fails.
 pub fn tenfold_edit<A: Allocator>(alloc: A, edit: &Edit<A>) -> Result<Edit<A>, AllocError>
     requires { AllByRecursion IsNear (corners_of_edit edit.now) }
     ensures { IfOk result (λ other. IsTenfoldEdit edit.now other) }
@@ -41,7 +41,8 @@ pub fn tenfold_edit<A: Allocator>(alloc: A, edit: &Edit<A>) -> Result<Edit<A>, A
 
 /// The least, by `x` and then by `y`, of the corners that an edit names and that are not near, and of one found before.
 pub fn least_far_of_edit<A: Allocator>(edit: &Edit<A>, found: Option<Corner>) -> Option<Corner>
-    ensures { (before : List CornerValue) → IsLeastFarOf before found → IsLeastFarOf (before ++ corners_of_edit edit.now) result }
+    ensures { (before : List CornerValue) → IsLeastFarOf before found
+        → IsLeastFarOf (before ++ corners_of_edit edit.now) result }
 {
     match edit {
         Edit::Split { path, .. } => least_far(path.as_slice(), found),

@@ -8,7 +8,7 @@ mod limits;
 mod rings;
 
 pub use boxes::least_box;
-pub use corners::{least_far, tenfold, tenfold_all};
+pub use corners::{is_up_to, least_beyond, least_far, tenfold, tenfold_all};
 pub use edits::{least_far_of_edit, tenfold_edit};
 pub use limits::{NEAR_LIMIT, the_near_limit_is_this_number};
 pub use rings::tenfold_ring;

@@ -12,7 +12,7 @@ use std::alloc::{AllocError, Allocator};
 ///
 /// # Errors
 ///
-/// [`AllocError`] where an allocation is refused.
+/// [`AllocError`] where an allocation fails.
 pub fn tenfold_ring<A: Allocator>(alloc: A, ring: &Ring<A>) -> Result<Ring<A>, AllocError>
     requires { AllByRecursion IsNear ring.now.corners }
     ensures { IfOk result (λ other. AreTenTimes ring.now.corners other.corners) }

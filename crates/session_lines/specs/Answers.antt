@@ -13,8 +13,9 @@ use Rattle.text_pieces.specs.CornerText.{corner_text, next_corner_text}
 use Rattle.clerk_runs.specs.ClerkLines.{refusal_text}
 use Rattle.clerk_runs.specs.PlaceTexts.{id_text, place_text}
 use Rattle.session_lines.specs.declared.faults.SessionFault.{SessionFault}
-use Rattle.session_lines.specs.declared.faults.SessionFault.TheVariants.{BadLine, NoVersion, NoMemory, OperatorOnly, NoCard, NoWindow}
-use Rattle.session_lines.specs.declared.faults.SessionFault.TheVariants.{JournalFailed, Closed, NoZones, CardsMissing}
+use Rattle.session_lines.specs.declared.faults.SessionFault.TheVariants.{BadLine, NoVersion, NoMemory, OperatorOnly}
+use Rattle.session_lines.specs.declared.faults.SessionFault.TheVariants.{NoCard, NoWindow, JournalFailed, Closed}
+use Rattle.session_lines.specs.declared.faults.SessionFault.TheVariants.{NoZones, CardsMissing}
 
 -- `ok NUMBER out ID..`: the entry's number, and the ids that it took out
 abbrev pub out_text : {A : Type 0} → JournalEntry A → List ℕ

@@ -8,8 +8,8 @@ use Rattle.line_files.specs.TextNumbers.{IsNumber, IsCornerText}
 use Rattle.line_files.specs.ClerkFile.{words_of, SayEdit}
 use Rattle.line_files.specs.declared.grids.Grid.TheVariants.{Millimetres}
 use Rattle.session_lines.specs.declared.line.Line.{Line}
-use Rattle.session_lines.specs.declared.line.Line.TheVariants.{Skipped, Edit, Locate, Parcel, Entries, Overlay, Check, Export, Publish}
-use Rattle.session_lines.specs.declared.line.Line.TheVariants.{OverlayAreas, Close}
+use Rattle.session_lines.specs.declared.line.Line.TheVariants.{Skipped, Edit, Locate, Parcel, Entries, Overlay, Check}
+use Rattle.session_lines.specs.declared.line.Line.TheVariants.{Export, Publish, OverlayAreas, Close}
 
 -- `locate X Y`
 pub record IsLocateLine (words : List (List ℕ)) (corner : Corner) : Type 0 where

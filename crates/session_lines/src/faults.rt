@@ -8,14 +8,15 @@ ghost use Rattle.session_lines.specs.Answers.{fault_text, error_line};
 use text_pieces::{Piece, Sink, push_parts, push_pieces};
 
 /// Why a line of a session is not carried out. It has changed nothing, but for an edit that is answered by
-/// [`SessionFault::JournalFailed`] or [`SessionFault::NoMemory`]: its entry may stand at the office, and in the journal.
+/// [`SessionFault::JournalFailed`] or [`SessionFault::NoMemory`]: its entry may
+/// stand at the office, and in the journal.
 #[derive(Clone, Copy, Debug, PartialEq, Eq)]
 pub enum SessionFault {
     /// L1: the line asks for nothing that there is, or is too long.
     BadLine,
     /// K4: there is no version to answer from.
     NoVersion,
-    /// An allocation was refused.
+    /// An allocation failed.
     NoMemory,
     /// The line is one of the operator's, and came from another desk.
     OperatorOnly,

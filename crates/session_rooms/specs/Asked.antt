@@ -1,5 +1,5 @@
--- What a line that came to a desk asks for, and who asks it (this product's own). Before an edit may stand the client's own
--- word for who asks and why: `by WHO: EDIT`.
+-- What a line that came to a desk asks for, and who asks it (this product's own). Before an edit may stand the client's
+-- own word for who asks and why: `by WHO: EDIT`.
 use Rattle.std.specs.Prelude.{◌≡◌, ◌⊎◌, ℕ, List, []}
 use Rattle.ring_edits.specs.declared.edit.Edit.{Edit}
 use Rattle.journal_records.specs.Words.{SaysWho}
@@ -10,7 +10,8 @@ use Rattle.session_lines.specs.declared.faults.SessionFault.{SessionFault}
 use Rattle.session_lines.specs.declared.faults.SessionFault.TheVariants.{BadLine, NoMemory, Closed}
 use Rattle.session_rooms.specs.declared.answers.Asked.{Asked}
 use Rattle.session_rooms.specs.declared.lines.Came.{Came}
-use Rattle.session_rooms.specs.declared.lines.Came.TheVariants.{Line as LineCame, TooLong as TooLongCame, NoMemory as NoMemoryCame}
+use Rattle.session_rooms.specs.declared.lines.Came.TheVariants.{Line as LineCame, TooLong as TooLongCame}
+use Rattle.session_rooms.specs.declared.lines.Came.TheVariants.{NoMemory as NoMemoryCame}
 use Rattle.session_rooms.specs.declared.lines.Came.TheVariants.{End as EndCame, Closed as ClosedCame}
 
 module _ {A : Type 0} where

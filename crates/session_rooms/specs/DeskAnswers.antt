@@ -16,14 +16,17 @@ use Rattle.fabric_core.specs.declared.refusal.Refusal.TheVariants.{NoMemory as R
 use Rattle.desk_lock.specs.Offices.{OfficeId, CardState, WindowState, EndsWith, IsSometime, Learns, IsRefusedWhenMet}
 use Rattle.desk_lock.specs.Offices.{journal_met, with_made, with_met}
 use Rattle.desk_lock.specs.declared.window.LocateFault.{LocateFault}
-use Rattle.desk_lock.specs.declared.window.LocateFault.TheVariants.{NoVersion as NoVersionFound, NoMemory as NoMemoryFound}
-use Rattle.session_lines.specs.Answers.{accepted_line, refused_line, located_line, parcel_line, no_parcel_line, entries_line}
-use Rattle.session_lines.specs.Answers.{error_line, fault_text}
+use Rattle.desk_lock.specs.declared.window.LocateFault.TheVariants.{NoVersion as NoVersionFound}
+use Rattle.desk_lock.specs.declared.window.LocateFault.TheVariants.{NoMemory as NoMemoryFound}
+use Rattle.session_lines.specs.Answers.{accepted_line, refused_line, located_line, parcel_line, no_parcel_line}
+use Rattle.session_lines.specs.Answers.{entries_line, error_line, fault_text}
 use Rattle.session_lines.specs.declared.faults.SessionFault.{SessionFault}
-use Rattle.session_lines.specs.declared.faults.SessionFault.TheVariants.{NoVersion, NoMemory, JournalFailed, OperatorOnly, NoCard}
+use Rattle.session_lines.specs.declared.faults.SessionFault.TheVariants.{NoVersion, NoMemory, JournalFailed}
+use Rattle.session_lines.specs.declared.faults.SessionFault.TheVariants.{OperatorOnly, NoCard}
 use Rattle.session_lines.specs.declared.faults.SessionFault.TheVariants.{NoWindow}
 use Rattle.session_lines.specs.declared.line.Line.{Line}
-use Rattle.session_lines.specs.declared.line.Line.TheVariants.{Skipped, Edit as AskedEdit, Locate, Parcel, Entries, Overlay}
+use Rattle.session_lines.specs.declared.line.Line.TheVariants.{Skipped, Edit as AskedEdit, Locate, Parcel, Entries}
+use Rattle.session_lines.specs.declared.line.Line.TheVariants.{Overlay}
 use Rattle.session_lines.specs.declared.line.Line.TheVariants.{OverlayAreas, Check, Export, Publish, Close}
 use Rattle.session_rooms.specs.Asked.{IsAskedBy, IsUnasked}
 use Rattle.session_rooms.specs.Kept.{IsOnDisk}
@@ -92,7 +95,7 @@ module _ {A : Type 0} where
   IsCardAfter (AskedEdit edit) before after = IsOfSameClerk before after
   IsCardAfter asked before after = after ≡ before
 
-  -- `at ..`: the place of a corner among the parcels that the window has seen last, and after how many entries
+  -- `at ..`: where a corner lies among the parcels that the window has seen last, and after how many entries
   abbrev pub IsPlaceLine : WindowState A → Corner → List ℕ → Type 0
   IsPlaceLine window corner line = ((at : At A) × IsLawful window.opening window.seen
       × IsLocatedAt (rows_seen window) (corner_point corner) at × (line ≡ located_line (length window.seen) corner at))
@@ -131,7 +134,8 @@ module _ {A : Type 0} where
   IsPlainLine window Close line = IsErrorLine OperatorOnly line
 
   -- it was refused, for a reason that is due after exactly the journal that the card has met then
-  pub record IsRefusedAnswer (office : OfficeId A) (before after : CardState A) (edit : Edit A) (line : List ℕ) : Type 0 where
+  pub record IsRefusedAnswer (office : OfficeId A) (before after : CardState A) (edit : Edit A)
+      (line : List ℕ) : Type 0 where
     pub refusal : Refusal
     pub is_due : IsRefusedWhenMet office after edit refusal ⊎ (refusal ≡ RefusedForMemory)
     pub unchanged : after ≡ with_met before after.met

@@ -1,4 +1,5 @@
--- What a session keeps of the edits that it makes: records in its journal, and what the disk has of them (this product's own).
+-- What a session keeps of the edits that it makes: records in its journal, and what the disk has of them (this
+-- product's own).
 use Rattle.std.specs.Prelude.{◌≡◌, ⊤, ℕ, ◌≤◌, List, [], ◌∷◌, Option, None, Some}
 use Rattle.journal_records.specs.declared.record.Stamp.{Stamp}
 use Rattle.journal_writers.specs.Writers.{WriterState, HasOneMore}
@@ -15,7 +16,8 @@ pub record IsRecorded {A : Type 0} (before after : WriterState) (entry : Journal
 -- a journal has one record more for each of these entries, in order
 abbrev pub HasRecords : {A : Type 0} → WriterState → WriterState → List (JournalEntry A) → Type 0
 HasRecords before after [] = after ≡ before
-HasRecords before after (entry ∷ others) = (mid : WriterState) × IsRecorded before mid entry × HasRecords mid after others
+HasRecords before after (entry ∷ others) =
+    (mid : WriterState) × IsRecorded before mid entry × HasRecords mid after others
 
 -- where there is a journal, the disk has at least so many records
 abbrev pub IsOnDisk : {J : Type 0} → Option J → Option OnDisk → ℕ → Type 0

@@ -1,5 +1,5 @@
--- What a session's room answers where an edit is not made, or nothing is shown, and the sheets that it draws (this product's
--- own).
+-- What a session's room answers where an edit is not made, or nothing is shown, and the sheets that it draws (this
+-- product's own).
 use Rattle.std.specs.Prelude.{◌≡◌, ◌⊎◌, [], Option, IsSome}
 use Rattle.fabric_core.specs.EditResults.{IsLawful}
 use Rattle.fabric_core.specs.Journal.{Book, replay}
@@ -37,8 +37,8 @@ IsJournalFault journal fault = (fault ≡ JournalFailed) × IsSome journal
 abbrev pub IsRoomFault : {T : Type 0} → Option T → SessionFault → Type 0
 IsRoomFault journal fault = IsJournalFault journal fault ⊎ (fault ≡ WantsMemory)
 
--- a sheet of the office: the entries that it opened with, and behind them its clerks'; what it has is what these lead to, and
--- tiles the city
+-- a sheet of the office: the entries that it opened with, and behind them its clerks'; what it has is what these lead
+-- to, and tiles the city
 pub record IsDrawn {A : Type 0} (office : OfficeId A) (sheet : Book A) : Type 0 where
   pub is_sheet : IsSheetOf office [] sheet
   pub is_lawful : IsLawful sheet.opening sheet.journal

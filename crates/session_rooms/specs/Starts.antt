@@ -62,8 +62,8 @@ module _ {A : Type 0} where
   IsTextOf layer text records seal rest = IsJournal layer text records seal rest
       ⊎ ((text ≡ []) × (records ≡ []) × (seal ≡ layer) × (rest ≡ []))
 
--- the text is a journal of the layer with this digest, or empty; so many records there are, with this last digest, and so many torn bytes
--- behind them
+-- the text is a journal of the layer with this digest, or empty; so many records there are, with this last digest, and
+-- so many torn bytes behind them
 pub record IsMarked (A : Type 0) (text : List ℕ) (replayed : Replayed) (layer : Seal) : Type 0 where
   pub records : List (Record A)
   pub rest : List ℕ
@@ -72,7 +72,8 @@ pub record IsMarked (A : Type 0) (text : List ℕ) (replayed : Replayed) (layer 
   pub is_torn : replayed.torn ≡ length rest
 
 module _ {A : Type 0} where
-  -- the register's entries are exactly the edits of the journal's records, in order, each by its clerk, and lead to what it is now
+  -- the register's entries are exactly the edits of the journal's records, in order, each by its clerk, and lead to
+  -- what it is now
   pub record IsBehind (text : List ℕ) (book : Book A) (replayed : Replayed) (layer : Seal) : Type 0 where
     pub marked : IsMarked A text replayed layer
     pub is_layer : layer.digits ≡ digest_of book
@@ -86,16 +87,16 @@ module _ {A : Type 0} where
     pub now : book.now ≡ book.opening
     pub journal : book.journal ≡ []
 
--- of the journal with this text the edit of the record of this number is the first that the register of this layer refuses, for this
--- reason
+-- of the journal with this text the edit of the record of this number is the first that the register of this layer
+-- refuses, for this reason
 pub record IsStoppedOver (A : Type 0) (tiles : Tiles) (text : List ℕ) (number : ℕ) (refusal : Refusal) : Type 0 where
   pub fresh : Book A
   pub reached : Book A
   pub is_fresh : IsFresh tiles fresh
   pub is_refused : IsRefusedAt (digest_of fresh) text fresh reached number refusal
 
-pub record IsStoppedBehind (A : Type 0) (city parcels : Files) (unit : LengthUnit) (text : List ℕ) (number : ℕ) (refusal : Refusal)
-    : Type 0 where
+pub record IsStoppedBehind (A : Type 0) (city parcels : Files) (unit : LengthUnit) (text : List ℕ) (number : ℕ)
+    (refusal : Refusal) : Type 0 where
   pub tiles : Tiles
   pub are_tiles : AreTiles city parcels unit tiles
   pub is_stopped : IsStoppedOver A tiles text number refusal

@@ -7,8 +7,8 @@ ghost use Rattle.city_layers.specs.TilingFiles.{AreTiles, files_of};
 ghost use Rattle.fabric_core.specs.declared.refusal.Refusal.{Refusal as RefusalValue};
 ghost use Rattle.journal_replays.specs.declared.journal_edits.ReplayFault.TheVariants.{Refused};
 ghost use Rattle.session_lines.specs.Answers.{ready_line};
-ghost use Rattle.session_rooms.specs.Starts.{zones_of, AreZonesOf, IsLoadFaultOf, IsOpenedWith, IsBehind, IsStoppedBehind};
-ghost use Rattle.session_rooms.specs.Starts.{IsOpenedOver, IsStoppedOver, IsMarked};
+ghost use Rattle.session_rooms.specs.Starts.{zones_of, AreZonesOf, IsLoadFaultOf, IsOpenedWith, IsBehind};
+ghost use Rattle.session_rooms.specs.Starts.{IsStoppedBehind, IsOpenedOver, IsStoppedOver, IsMarked};
 
 use city_layers::{Layers, Source, ToolFault, load_layers_by, load_tiles_by};
 use fabric_core::{Fabric, Layer};
@@ -53,8 +53,8 @@ pub enum BeginFault {
     Journal(ReplayFault),
 }
 
-/// The register that layers' files and a journal's text give: the layer behind exactly the journal's edits. The text is empty
-/// where there is no journal yet.
+/// The register that layers' files and a journal's text give: the layer behind exactly the journal's edits. The text is
+/// empty where there is no journal yet.
 ///
 /// # Errors
 ///
@@ -76,8 +76,10 @@ pub fn begin_register<'h, R: Threads + Sync, H: Allocator + Send + Sync, A: Allo
     ensures zones { IfOk result (λ begun. AreZonesOf (zones_of sources.now) unit begun.fabric.city begun.zones) }
     ensures load { IfErr result (λ fault. IsLoadFaultOf sources.now unit fault) }
     // An edit that is refused is told by its record: the first that is, behind exactly the edits before it.
-    ensures refused { (number : ℕ) (refusal : RefusalValue) → IsErrOf result (BeginFault.Journal (Refused number refusal))
-        → IsStoppedBehind (Bor H) (files_of sources.now.city) (files_of sources.now.parcels) unit text.now number refusal }
+    ensures refused { (number : ℕ) (refusal : RefusalValue)
+        → IsErrOf result (BeginFault.Journal (Refused number refusal))
+        → IsStoppedBehind (Bor H) (files_of sources.now.city) (files_of sources.now.parcels) unit
+        text.now number refusal }
 {
     let (layer, zones) = match load(rt, workers, heap, sources, unit) {
         Ok(loaded) => loaded,
@@ -161,8 +163,8 @@ fn load<'h, R: Threads + Sync, H: Allocator + Send + Sync, A: Allocator + Sync>(
     }
 }
 
-/// Who writes the journal of a register from its start on, in a file that has the text which the register was begun with: an
-/// empty one gets the header, and what is torn is cut off.
+/// Who writes the journal of a register from its start on, in a file that has the text which the register was begun
+/// with: an empty one gets the header, and what is torn is cut off.
 ///
 /// # Errors
 ///
@@ -196,7 +198,7 @@ pub fn begin_writer<'h, H: Allocator, F: JournalFile>(
 ///
 /// # Errors
 ///
-/// [`AllocError`] where an allocation is refused.
+/// [`AllocError`] where an allocation fails.
 pub fn ready_text<'h, H: Allocator>(
     heap: &'h H,
     fabric: &Fabric<'h, H>,

@@ -11,7 +11,7 @@ use line_files::{ClerkFault, read_clerk};
 use ring_edits::Edit;
 use std::alloc::Allocator;
 
-/// Whose edits those of a clerk's file are.
+/// Whose edits those of a clerk's file are: the clerk's that each session has, also one without desks.
 pub const EDITS_CLERK: u32 = 1;
 
 /// Why the edits of a clerk's file are not made.
@@ -21,7 +21,7 @@ pub enum EditsFault {
     Line(u64),
     /// The edit in the line of this number is refused.
     Refused(u64, Refusal),
-    /// An allocation was refused.
+    /// An allocation failed.
     NoMemory,
 }
 

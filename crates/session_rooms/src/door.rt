@@ -7,16 +7,11 @@ use std::sync::{Condvar, Mutex, Wait};
 /// Once the session closes, no desk goes in any more, and none takes a further line.
 #[derive(Drop)]
 pub struct Door {
+    /// Whether the session closes: set only while `standing` is locked, so nobody steps in behind it.
     closing: AtomicBool,
-    standing: Mutex<Standing>,
+    /// How many stand in the door.
+    standing: Mutex<usize>,
     passed: Condvar,
-}
-
-/// Who stands in the door.
-#[derive(Drop)]
-struct Standing {
-    count: usize,
-    is_closing: bool,
 }
 
 impl Door {
@@ -24,10 +19,7 @@ impl Door {
     pub fn new() -> Door {
         Door {
             closing: AtomicBool::new(false),
-            standing: Mutex::new(Standing {
-                count: 0,
-                is_closing: false,
-            }),
+            standing: Mutex::new(0),
             passed: Condvar::new(),
         }
     }
@@ -40,34 +32,33 @@ impl Door {
     /// Steps into the door; `false` where the session closes.
     pub fn step_in<R: Wait>(&self, rt: &R) -> bool {
         let mut standing = self.standing.lock(rt);
-        if standing.is_closing {
+        if self.is_closing() {
             return false;
         }
-        standing.count = standing.count.wrapping_add(1);
+        *standing = standing.wrapping_add(1);
         true
     }
 
     /// Leaves the door, in which one stood.
     pub fn pass<R: Wait>(&self, rt: &R) {
         let mut standing = self.standing.lock(rt);
-        standing.count = standing.count.wrapping_sub(1);
+        *standing = standing.wrapping_sub(1);
         drop(standing);
         self.passed.notify_all();
     }
 
     /// Closes the session.
     pub fn close<R: Wait>(&self, rt: &R) {
-        let mut standing = self.standing.lock(rt);
-        standing.is_closing = true;
-        drop(standing);
+        let standing = self.standing.lock(rt);
         self.closing.store(true, Ordering::SeqCst);
+        drop(standing);
     }
 
     /// Waits until nobody stands in the door.
     pub fn wait_for_all<R: Wait>(&self, rt: &R) {
         let standing = self
             .passed
-            .wait_while(rt, self.standing.lock(rt), |standing| standing.count != 0);
+            .wait_while(rt, self.standing.lock(rt), |standing| *standing != 0);
         drop(standing);
     }
 }

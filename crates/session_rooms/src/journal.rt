@@ -65,9 +65,9 @@ impl<F: JournalFile, A: Allocator, K: Clocked> Journal<F, A, K> {
         self.records.store(records, Ordering::SeqCst);
     }
 
-    /// Waits until the disk has the record of this number, and all before it; `None` where it has not. One synchronisation
-    /// serves all records that were written before it began. All that wait are woken at its end, and one of those whose
-    /// record came later begins the next.
+    /// Waits until the disk has the record of this number, and all before it; `None` where it has not. One
+    /// synchronisation serves all records that were written before it began. All that wait are woken at its end, and
+    /// one of those whose record came later begins the next.
     pub fn sync_to<R: Wait>(&self, rt: &R, number: u64) -> Option<OnDisk>
         ensures { IfSome result (λ on_disk. number ≤ on_disk.records) }
     {
@@ -102,11 +102,13 @@ impl<F: JournalFile, A: Allocator, K: Clocked> Journal<F, A, K> {
         self.synced.lock(rt).on_disk().records()
     }
 
-    /// Synchronises all records that were written, and wakes those that wait for it; what the disk has then, `None` where
-    /// it failed.
+    /// Synchronises all records that were written, and wakes those that wait for it; what the disk has then, `None`
+    /// where it failed.
     fn synchronise<R: Wait>(&self, rt: &R) -> Option<OnDisk> {
+        // Counted before it begins: what is written meanwhile may not be on the disk at its end.
         let brought = sync(&self.synchroniser, self.records.load(Ordering::SeqCst));
         if brought.is_err() {
+            // Before anybody is woken, so that nobody writes behind a synchronisation that failed.
             self.writer.lock(rt).give_up();
         }
         let mut synced = self.synced.lock(rt);
@@ -121,7 +123,7 @@ impl<F: JournalFile, A: Allocator, K: Clocked> Journal<F, A, K> {
 ///
 /// # Errors
 ///
-/// [`AllocError`] where an allocation is refused.
+/// [`AllocError`] where an allocation fails.
 pub fn time_of<K: Clocked, B: Allocator + Copy>(
     alloc: B,
     synchroniser: &K,

@@ -11,7 +11,7 @@ use std::alloc::Allocator;
 use std::io;
 use std::io::{BufRead, BufReader, Read};
 
-/// How many bytes a line has at most, with its line feed.
+/// How many bytes a line has at most, with its line feed: several times those of an edit with the longest path.
 pub const LINE_BYTES: usize = 1_048_576;
 
 /// What came next at a desk.
@@ -76,6 +76,7 @@ fn take_line<R: BufRead, A: Allocator>(
 {
     line.clear();
     let mut came = Came::Line;
+    // No line comes in so many parts: the loop ends with the line, the pipe or the session.
     for _ in 0..u64::MAX {
         if door.is_closing() {
             return Ok(Came::Closed);

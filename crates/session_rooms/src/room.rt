@@ -6,7 +6,8 @@ ghost use Rattle.fabric_core.specs.EditResults.{IsLawful};
 ghost use Rattle.desk_lock.specs.Offices.{with_made, with_met, journal_met, EndsWith, IsSometime, IsRefusedWhenMet};
 ghost use Rattle.desk_lock.specs.Offices.{AreOfClerks, behind};
 ghost use Rattle.session_rooms.specs.DeskAnswers.{IsCardLater};
-ghost use Rattle.session_rooms.specs.Rooms.{IsDrawn, IfRefused, UnlessJournalFails, IfJournalFails, IsJournalFault, IsRoomFault};
+ghost use Rattle.session_rooms.specs.Rooms.{IsDrawn, IfRefused, UnlessJournalFails, IfJournalFails, IsJournalFault};
+ghost use Rattle.session_rooms.specs.Rooms.{IsRoomFault};
 ghost use Rattle.session_rooms.specs.Kept.{IsRecorded, IsOnDisk};
 
 use crate::door::Door;
@@ -96,8 +97,8 @@ impl<'r, 'h, H: Allocator, J: Naming<H>, R: Wait, F: JournalFile, K: Clocked> Ro
         }
     }
 
-    /// What is left once all desks have ended: the office, and how many records the disk has of its journal, where there is
-    /// one.
+    /// What is left once all desks have ended: the office, and how many records the disk has of its journal, where
+    /// there is one.
     pub fn end(self) -> (Office<'h, H, J, &'r R>, Option<u64>)
         ensures office { result.0 ≡ self.entry.office }
         ensures kept { IsSome result.1 ↔ IsSome self.entry.journal }
@@ -115,8 +116,8 @@ impl<'r, 'h, H: Allocator, J: Naming<H>, R: Wait, F: JournalFile, K: Clocked> Ro
         (office, kept)
     }
 
-    /// Makes an edit at the office, with the client's own word for who and why, and shows it. Where there is a journal, the
-    /// disk has the edit's record before it is shown; records stand in the order of their entries' numbers.
+    /// Makes an edit at the office, with the client's own word for who and why, and shows it. Where there is a journal,
+    /// the disk has the edit's record before it is shown; records stand in the order of their entries' numbers.
     ///
     /// # Errors
     ///
@@ -141,7 +142,8 @@ impl<'r, 'h, H: Allocator, J: Naming<H>, R: Wait, F: JournalFile, K: Clocked> Ro
         // The card is its clerk's, as before, and has met what it had met.
         ensures card { IsCardLater card.old card.new }
         // A refused edit changes nothing, but that the card has met the journal, after which it is refused for this.
-        ensures unchanged { IfErr result (λ fault. UnlessJournalFails fault (card.new ≡ with_met card.old card.new.met)) }
+        ensures unchanged { IfErr result (λ fault. UnlessJournalFails fault
+            (card.new ≡ with_met card.old card.new.met)) }
         ensures refusal { IfErr result (λ fault. IfRefused fault (λ refusal.
             IsRefusedWhenMet J.office card.new edit.now refusal ⊎ (refusal ≡ Refusal.NoMemory))) }
         // Only a journal that there is can fail.
@@ -182,7 +184,8 @@ impl<'r, 'h, H: Allocator, J: Naming<H>, R: Wait, F: JournalFile, K: Clocked> Ro
         ensures ends { IfOk result (λ entry. EndsWith entry entry.number (journal_met J.office card.new)) }
         ensures after { IfOk result (λ entry. IsSometime J.office card.new (journal_met J.office card.new)) }
         ensures card { IsCardLater card.old card.new }
-        ensures unchanged { IfErr result (λ fault. UnlessJournalFails fault (card.new ≡ with_met card.old card.new.met)) }
+        ensures unchanged { IfErr result (λ fault. UnlessJournalFails fault
+            (card.new ≡ with_met card.old card.new.met)) }
         ensures refusal { IfErr result (λ fault. IfRefused fault (λ refusal.
             IsRefusedWhenMet J.office card.new edit.now refusal ⊎ (refusal ≡ Refusal.NoMemory))) }
         ensures no_journal { IfErr result (λ fault. IfJournalFails fault ⊥) }
@@ -209,7 +212,8 @@ impl<'r, 'h, H: Allocator, J: Naming<H>, R: Wait, F: JournalFile, K: Clocked> Ro
         ensures ends { IfOk result (λ made. EndsWith made.0 made.0.number (journal_met J.office card.new)) }
         ensures after { IfOk result (λ made. IsSometime J.office card.new (journal_met J.office card.new)) }
         ensures card { IsCardLater card.old card.new }
-        ensures unchanged { IfErr result (λ fault. UnlessJournalFails fault (card.new ≡ with_met card.old card.new.met)) }
+        ensures unchanged { IfErr result (λ fault. UnlessJournalFails fault
+            (card.new ≡ with_met card.old card.new.met)) }
         ensures refusal { IfErr result (λ fault. IfRefused fault (λ refusal.
             IsRefusedWhenMet J.office card.new edit.now refusal ⊎ (refusal ≡ Refusal.NoMemory))) }
         ensures on_disk { IfOk result (λ made. made.0.number ≤ made.1.records) }
@@ -250,7 +254,8 @@ impl<'r, 'h, H: Allocator, J: Naming<H>, R: Wait, F: JournalFile, K: Clocked> Ro
         ensures ends { IfOk result (λ entry. EndsWith entry entry.number (journal_met J.office card.new)) }
         ensures after { IfOk result (λ entry. IsSometime J.office card.new (journal_met J.office card.new)) }
         ensures card { IsCardLater card.old card.new }
-        ensures unchanged { IfErr result (λ fault. UnlessJournalFails fault (card.new ≡ with_met card.old card.new.met)) }
+        ensures unchanged { IfErr result (λ fault. UnlessJournalFails fault
+            (card.new ≡ with_met card.old card.new.met)) }
         ensures refusal { IfErr result (λ fault. IfRefused fault (λ refusal.
             IsRefusedWhenMet J.office card.new edit.now refusal ⊎ (refusal ≡ Refusal.NoMemory))) }
         // The journal has one record more, which is the entry's; a refused edit has none.
@@ -259,6 +264,7 @@ impl<'r, 'h, H: Allocator, J: Naming<H>, R: Wait, F: JournalFile, K: Clocked> Ro
         ensures broken { IfErr result (λ fault. IfJournalFails fault (writer.new.is_broken ≡ true)) }
     {
         let stamp = Stamp {
+            // It never wraps: a journal is full long before.
             number: writer.records().wrapping_add(1),
             clerk: card.clerk(),
             time,
@@ -300,7 +306,8 @@ impl<'r, 'h, H: Allocator, J: Naming<H>, R: Wait, F: JournalFile, K: Clocked> Ro
         }
     }
 
-    /// Has the disk hold all records that were written, and answers how many they are; `None` where there is no journal.
+    /// Has the disk hold all records that were written, and answers how many they are; `None` where there is no
+    /// journal.
     fn sync_journal(&self) -> Result<Option<u64>, SessionFault>
         ensures there { IfOk result (λ number. IsSome number ↔ IsSome self.now.journal) }
         ensures fault { IfErr result (IsJournalFault self.now.journal) }
@@ -314,8 +321,8 @@ impl<'r, 'h, H: Allocator, J: Naming<H>, R: Wait, F: JournalFile, K: Clocked> Ro
         }
     }
 
-    /// The parcels as they are now, with the entries that led there. Where there is a journal, the disk has all of them. The
-    /// office is held no longer than they are copied.
+    /// The parcels as they are now, with the entries that led there. Where there is a journal, the disk has all of
+    /// them. The office is held no longer than they are copied.
     ///
     /// # Errors
     ///

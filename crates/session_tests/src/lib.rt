@@ -1,4 +1,5 @@
-//! Tests of a session's lines: what each line asks for, and each answer, byte for byte; and growths that are refused.
+//! Tests of a session's lines: what each line asks for, and each answer, byte for
+//! byte; and allocations that are refused.
 #![tactic(auto)]
 
 #[cfg(test)]
@@ -6,4 +7,4 @@ mod answers;
 #[cfg(test)]
 mod asked;
 #[cfg(test)]
-mod refused_growths;
+mod refused_allocations;

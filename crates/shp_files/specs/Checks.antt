@@ -1,4 +1,5 @@
--- The checks of a main file, in their order, each with the fault that it answers: this profile of the Technical Description (July 1998).
+-- The checks of a main file, in their order, each with the fault that it answers: this profile of the Technical
+-- Description (July 1998).
 use Rattle.std.specs.Prelude.{ℕ, zero, suc, ◌+◌, ◌*◌, ◌-◌, ◌||◌, ◌&&◌, ◌==◌, nat_lt, not, ℤ, pos, int_lt, Bool}
 use Rattle.std.specs.Prelude.{true, false, if◌then◌else◌, List, [], ◌∷◌, ◌++◌, length, Option, Some, None, Result, Ok}
 use Rattle.std.specs.Prelude.{Err}
@@ -78,7 +79,8 @@ is_null main start = int_eq (shape_type main start) (pos 0)
 -- the checks of its shape type
 unfoldable pub shape_checks : List ℕ → ℕ → ℕ → List Check
 shape_checks main position start =
-    check (is_not (shape_type main start) (pos 0) && is_not (shape_type main start) (pos 5)) (fault position (start + 8) kinds.ShapeType)
+    check (is_not (shape_type main start) (pos 0) && is_not (shape_type main start) (pos 5))
+    (fault position (start + 8) kinds.ShapeType)
     ∷ check (is_null main start && is_not (content_words main start) (pos 2)) (fault position (start + 4) kinds.Content)
     ∷ []
 
@@ -90,9 +92,11 @@ count_checks main position start corners_before =
     ∷ check (is_not (part_count main start) (pos 1)) (fault position (start + 44) kinds.Parts)
     ∷ check (nat_lt (record_end main start) (start + 52)) (fault position (start + 4) kinds.Content)
     ∷ check (int_lt (point_count main start) (pos 4)) (fault position (start + 48) kinds.FewPoints)
-    ∷ check (nat_lt (RING_CORNERS + 1) (points_of main start) || nat_lt LAYER_CORNERS (corners_before + (points_of main start - 1)))
+    ∷ check (nat_lt (RING_CORNERS + 1) (points_of main start)
+    || nat_lt LAYER_CORNERS (corners_before + (points_of main start - 1)))
     (fault position (start + 48) kinds.TooMany)
-    ∷ check (not (2 * natural (content_words main start) == 48 + 16 * points_of main start)) (fault position (start + 4) kinds.Content)
+    ∷ check (not (2 * natural (content_words main start) == 48 + 16 * points_of main start))
+    (fault position (start + 4) kinds.Content)
     ∷ check (is_not (first_part main start) (pos 0)) (fault position (start + 52) kinds.Parts)
     ∷ []
 
@@ -105,7 +109,8 @@ refusal position place (Err c) = check true (fault position place (kinds.Coord c
 unfoldable pub coordinate_checks : List ℕ → LengthUnit → ℕ → ℕ → ℕ → List Check
 coordinate_checks main unit position place zero = []
 coordinate_checks main unit position place (suc count) =
-    refusal position place (coordinate (double_at main place) unit) ∷ coordinate_checks main unit position (place + 8) count
+    refusal position place (coordinate (double_at main place) unit)
+    ∷ coordinate_checks main unit position (place + 8) count
 
 -- two coordinates, as they were read, are different, or not both were read
 abbrev pub differs : Result ℤ CoordFault → Result ℤ CoordFault → Bool
@@ -127,7 +132,8 @@ closing_checks main unit position first last =
 -- the checks of its points: each coordinate, and then the ring's closing
 unfoldable pub ring_checks : List ℕ → LengthUnit → ℕ → ℕ → ℕ → List Check
 ring_checks main unit position first count =
-    coordinate_checks main unit position first (2 * count) ++ closing_checks main unit position first (first + 16 * (count - 1))
+    coordinate_checks main unit position first (2 * count)
+    ++ closing_checks main unit position first (first + 16 * (count - 1))
 
 -- how many of so many points, from a byte on, are not the point behind them
 unfoldable pub distinct_points : List ℕ → LengthUnit → ℕ → ℕ → ℕ
@@ -148,7 +154,8 @@ polygon_checks main unit position start corners_before =
     ++ (ring_checks main unit position (start + 56) (points_of main start)
     ++ corner_checks main unit position start)
 
--- all checks of the record at this position that begins at this byte, where the polygons before it have so many corners together
+-- all checks of the record at this position that begins at this byte, where the polygons
+-- before it have so many corners together
 unfoldable pub record_checks : List ℕ → LengthUnit → ℕ → ℕ → ℕ → List Check
 record_checks main unit position start corners_before =
     frame_checks main position start

@@ -43,17 +43,21 @@ pub record IndexStopsAt (main index : List ℕ) (unit : LengthUnit) (fault : Fil
   pub corners : ℕ
   pub is_reached : Reaches main unit position record_at corners
   pub has_header : first_failure (header_checks Index index) ≡ None
-  pub has_entries : (p s c : ℕ) → Reaches main unit p s c → p < position → first_failure (entry_checks main index p s) ≡ None
+  pub has_entries : (p s c : ℕ) → Reaches main unit p s c → p < position
+      → first_failure (entry_checks main index p s) ≡ None
   pub is_first : first_failure (entry_checks main index position record_at) ≡ Some fault
 
 -- the fault is that of the first check of the index that fails: of the header, or at the first record that has one
 abbrev pub IsIndexFault : List ℕ → List ℕ → LengthUnit → FileFault → Type 0
-IsIndexFault main index unit fault = (first_failure (header_checks Index index) ≡ Some fault) ⊎ IndexStopsAt main index unit fault
+IsIndexFault main index unit fault =
+    (first_failure (header_checks Index index) ≡ Some fault) ⊎ IndexStopsAt main index unit fault
 
--- the fault is that of the first check that fails: of the main file or, where that is accepted and there is one, of the index
+-- the fault is that of the first check that fails: of the main file or, where that is
+-- accepted and there is one, of the index
 abbrev pub IsFirstFault : List ℕ → Option (List ℕ) → LengthUnit → FileFault → Type 0
 IsFirstFault main None unit fault = IsMainFault main unit fault
-IsFirstFault main (Some index) unit fault = IsMainFault main unit fault ⊎ (IsAccepted main unit × IsIndexFault main index unit fault)
+IsFirstFault main (Some index) unit fault =
+    IsMainFault main unit fault ⊎ (IsAccepted main unit × IsIndexFault main index unit fault)
 
 -- a text is a layer's files, or has a first fault
 abbrev pub IsDecided : List ℕ → Option (List ℕ) → LengthUnit → Type 0

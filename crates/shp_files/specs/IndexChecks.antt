@@ -1,5 +1,5 @@
--- The checks of an index file against the main file, in their order, each with the fault that it answers: this profile of the
--- Technical Description (July 1998, "Organization of the Index File", "Index Records").
+-- The checks of an index file against the main file, in their order, each with the fault that it answers: this profile
+-- of the Technical Description (July 1998, "Organization of the Index File", "Index Records").
 use Rattle.std.specs.Prelude.{ℕ, ◌+◌, ◌*◌, ◌-◌, ◌/◌, ◌==◌, nat_lt, not, pos, if◌then◌else◌, List, [], ◌∷◌}
 use Rattle.shp_files.specs.declared.fault.FileFault.{FileFault}
 use Rattle.shp_files.specs.declared.fault.FileName.TheVariants.{Index}
@@ -25,7 +25,8 @@ index_end_checks index position =
 unfoldable pub index_record_checks : List ℕ → List ℕ → ℕ → ℕ → List Check
 index_record_checks main index position start =
     check (nat_lt (declared_end index) (entry_place position + 8)) (disagreement position (entry_place position))
-    ∷ check (is_not (offset_words index (entry_place position)) (pos (start / 2))) (disagreement position (entry_place position))
+    ∷ check (is_not (offset_words index (entry_place position)) (pos (start / 2)))
+    (disagreement position (entry_place position))
     ∷ check (is_not (content_words index (entry_place position)) (content_words main start))
     (disagreement position (entry_place position + 4))
     ∷ []
@@ -33,4 +34,5 @@ index_record_checks main index position start =
 -- the checks of the index at this position, where the main file's records before it end at this byte
 unfoldable pub entry_checks : List ℕ → List ℕ → ℕ → ℕ → List Check
 entry_checks main index position start =
-    if start == declared_end main then index_end_checks index position else index_record_checks main index position start
+    if start == declared_end main then index_end_checks index position
+    else index_record_checks main index position start

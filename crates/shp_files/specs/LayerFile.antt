@@ -28,7 +28,8 @@ pub record IsHeader (header : List ℕ) (declared : ℕ) : Type 0 where
 abbrev pub ArePoints : LengthUnit → List ℕ → ℕ → List Corner → Type 0
 ArePoints unit bytes at [] = Unit {0}
 ArePoints unit bytes at (corner ∷ rest) =
-    IsOnGrid (double_at bytes at) unit corner.x × IsOnGrid (double_at bytes (at + 8)) unit corner.y × ArePoints unit bytes (at + 16) rest
+    IsOnGrid (double_at bytes at) unit corner.x × IsOnGrid (double_at bytes (at + 8)) unit corner.y
+    × ArePoints unit bytes (at + 16) rest
 
 -- a ring as a file has it: the first corner once more at the end
 abbrev pub closed : List Corner → List Corner
@@ -41,8 +42,8 @@ pub record IsNullShape (bytes : List ℕ) : Type 0 where
   pub has_length : content_words bytes 0 ≡ pos 2
   pub has_type : shape_type bytes 0 ≡ pos 0
 
--- The bytes are the record of a polygon of one closed ring with at most 4,096 corners, the closing one not counted, and at least 3 where
--- neighbours that are equal are kept once.
+-- The bytes are the record of a polygon of one closed ring with at most 4,096 corners, the closing one not counted, and
+-- at least 3 where neighbours that are equal are kept once.
 pub record IsPolygon (unit : LengthUnit) (bytes : List ℕ) (corners : List Corner) : Type 0 where
   pub has_length : pos (length bytes) ≡ pos 8 +ℤ pos 2 *ℤ content_words bytes 0
   pub has_type : shape_type bytes 0 ≡ pos 5
@@ -54,7 +55,8 @@ pub record IsPolygon (unit : LengthUnit) (bytes : List ℕ) (corners : List Corn
   pub has_enough : 3 ≤ length (kept_once corners)
   pub has_not_too_many : length corners ≤ RING_CORNERS
 
--- The records, the first of which has this number, are null shapes and polygons, and these are the rings of the polygons as they are drawn.
+-- The records, the first of which has this number, are null shapes and polygons, and these are the rings of the
+-- polygons as they are drawn.
 abbrev pub AreRecords : LengthUnit → ℕ → List (List ℕ) → List NumberedRing → Type 0
 AreRecords unit number [] [] = Unit {0}
 AreRecords unit number [] (ring ∷ rings) = ⊥
@@ -78,7 +80,8 @@ pub record IsIndexRecord (bytes : List ℕ) (start : ℕ) (indexed : List ℕ) :
   pub has_offset : pos 2 *ℤ offset_words bytes 0 ≡ pos start
   pub has_length : content_words bytes 0 ≡ content_words indexed 0
 
--- There is an index record for each of these records, in their order; the first of them begins at this byte of the main file.
+-- There is an index record for each of these records, in their order; the first of them
+-- begins at this byte of the main file.
 abbrev pub AreIndexRecords : ℕ → List (List ℕ) → List (List ℕ) → Type 0
 AreIndexRecords start [] [] = Unit {0}
 AreIndexRecords start [] (indexed ∷ records) = ⊥
@@ -96,7 +99,8 @@ pub record IsIndexFile (index : List ℕ) (records : List (List ℕ)) : Type 0 w
   pub has_entries : AreIndexRecords 100 entries records
 
 -- the bytes are a layer's main file in this unit and, where there is one, its index file, and these are its rings
-pub record IsLayerFile (main : List ℕ) (index : Option (List ℕ)) (unit : LengthUnit) (rings : List NumberedRing) : Type 0 where
+pub record IsLayerFile (main : List ℕ) (index : Option (List ℕ)) (unit : LengthUnit)
+    (rings : List NumberedRing) : Type 0 where
   pub header : List ℕ
   pub records : List (List ℕ)
   pub ignored : List ℕ

@@ -63,9 +63,11 @@ as_written ring = if int_lt (pos 0) (area2 ring) then turned_round ring else rin
 abbrev pub points : List Corner → List Corner
 points ring = closed (as_written ring)
 
--- "Polygon": the shape type, the box, the number of parts, the number of points, the place of the part's first point, the points
+-- "Polygon": the shape type, the box, the number of parts, the number of points, the place
+-- of the part's first point, the points
 unfoldable pub content : List Corner → List ℕ
-content ring = little 5 ++ box ring ++ little 1 ++ little (length (points ring)) ++ little 0 ++ flat_map point (points ring)
+content ring =
+    little 5 ++ box ring ++ little 1 ++ little (length (points ring)) ++ little 0 ++ flat_map point (points ring)
 
 -- "Record Headers": the record's number and its content's length, and then the content
 unfoldable pub record_bytes : ℕ → List Corner → List ℕ
@@ -93,7 +95,8 @@ written_main rings = header (50 + words (joined (records 1 rings))) (all_corners
 -- words. A record's header has 4 words. The first of these rings' records begins at this place.
 abbrev pub index_records : ℕ → List (List Corner) → List ℕ
 index_records place [] = []
-index_records place (ring ∷ rings) = big place ++ big (words (content ring)) ++ index_records (place + 4 + words (content ring)) rings
+index_records place (ring ∷ rings) =
+    big place ++ big (words (content ring)) ++ index_records (place + 4 + words (content ring)) rings
 
 -- the index file: its header, of 50 words, and 4 words for each record
 unfoldable pub written_index : List (List Corner) → List ℕ

@@ -31,7 +31,7 @@ pub fn with_corners(bounds: Option<Bounds>, corners: &[Corner]) -> Option<Bounds
     bounds
 }
 
-/// The box of corners, all 0 for no corner.
+/// The box of corners, all 0 for no corner: of a file without records the Technical Description leaves it open.
 pub fn put_box<A: Allocator>(out: &mut Vec<u8, A>, bounds: Option<Bounds>) -> Result<(), AllocError>
     ensures { (corners : List CornerValue) → MayBeBounds bounds corners
         → OnOk result (out.new.items ≡ out.old.items ++ written.box corners) }

@@ -61,7 +61,7 @@ pub struct FileFault {
 pub enum LayerFault {
     /// The files are no layer: their first fault.
     File(FileFault),
-    /// A growth was refused.
+    /// An allocation failed.
     NoMemory,
 }
 

@@ -33,6 +33,7 @@ pub fn read_header(name: FileName, file: &[u8]) -> Result<usize, FileFault>
     let code = big_at(file, 0);
     refuse_if(code != FILE_CODE, in_header(name, 0, FaultKind::FileCode))?;
     let words = big_at(file, 24);
+    // The header itself has 50 words.
     refuse_if(words < 50, in_header(name, 24, FaultKind::Short))?;
     let end = 2 * natural(words);
     refuse_if(size < end, in_header(name, size, FaultKind::Short))?;

@@ -23,7 +23,8 @@ pub fn check_index(main: &[u8], end: usize, index: &[u8]) -> Result<(), FileFaul
     requires within { end ≤ length main.now }
     requires accepted { (unit : LengthUnit) × IsAccepted main.now unit }
     ensures agrees { (unit : LengthUnit) → IsAccepted main.now unit → IsOk result → Agrees main.now index.now unit }
-    ensures fault { (unit : LengthUnit) → IsAccepted main.now unit → IfErr result (IsIndexFault main.now index.now unit) }
+    ensures fault { (unit : LengthUnit) → IsAccepted main.now unit
+        → IfErr result (IsIndexFault main.now index.now unit) }
 {
     let index_end = read_header(FileName::Index, index)?;
     let mut head = RecordHead {

@@ -1,7 +1,7 @@
 //! The layer of a main file and its index.
 
-ghost use Rattle.std.specs.Prelude.{◌≡◌, ◌≤◌, ◌<◌, ◌^◌, ◌⊎◌, ℕ, [], length, List, Option, None, option_copied, IfOk, OnOk};
-ghost use Rattle.std.specs.Prelude.{MatchResult, IsErrAnd, IsErrOf};
+ghost use Rattle.std.specs.Prelude.{◌≡◌, ◌≤◌, ◌<◌, ◌^◌, ◌⊎◌, ℕ, [], length, List, Option, None, option_copied, IfOk};
+ghost use Rattle.std.specs.Prelude.{OnOk, MatchResult, IsErrAnd, IsErrOf};
 ghost use Rattle.geo_exact.specs.declared.coord.Unit.{Unit as LengthUnit};
 ghost use Rattle.shp_files.specs.declared.fault.FileFault.{FileFault};
 ghost use Rattle.shp_files.specs.LayerFile.{NumberedRing, rings_of, IsLayerFile};
@@ -29,7 +29,7 @@ use std::alloc::Allocator;
 /// # Errors
 ///
 /// [`LayerFault::File`] with the first fault in the order of the checks, those of the main file first, and
-/// [`LayerFault::NoMemory`] only where a growth was refused.
+/// [`LayerFault::NoMemory`] only where an allocation failed.
 ///
 /// ```
 /// let rings = read_layer(alloc, main.as_slice(), Some(index.as_slice()), Unit::Mm)?;
@@ -159,7 +159,8 @@ pub fn a_layer_file_has_one_list_of_rings()
 
 /// A layer's files have no first fault.
 pub fn a_layer_file_has_no_fault()
-    ensures { (main : List ℕ) (index : Option (List ℕ)) (unit : LengthUnit) (rings : List NumberedRing) (fault : FileFault) →
+    ensures { (main : List ℕ) (index : Option (List ℕ)) (unit : LengthUnit) (rings : List NumberedRing)
+        (fault : FileFault) →
         IsLayerFile main index unit rings → IsFirstFault main index unit fault → ⊥ }
 {}
 

@@ -22,9 +22,10 @@ use geo_exact::{
 };
 use std::alloc::Allocator;
 
+/// The shape type of null shapes.
 const NULL_SHAPE: i32 = 0;
 
-/// The bytes of a record before its points.
+/// The bytes of a record before its points: 8 of its header and 48 of its content.
 const POINTS: usize = 56;
 
 /// The most points of a ring, the closing one included.
@@ -107,7 +108,8 @@ fn check_counts(
     requires bound { content_end < 2 ^ 32 }
     requires room { head.start + 12 ≤ content_end }
     requires corners { corners_before ≤ LAYER_CORNERS }
-    ensures checked { result_err result ≡ first_failure (count_checks main.now head.position head.start corners_before) }
+    ensures checked { result_err result
+        ≡ first_failure (count_checks main.now head.position head.start corners_before) }
     ensures count { IfOk result (λ count. count ≡ points_of main.now head.start) }
     ensures enough { IfOk result (λ count. 4 ≤ count) }
     ensures few { IfOk result (λ count. count ≤ RING_CORNERS + 1) }
@@ -116,6 +118,7 @@ fn check_counts(
 {
     let start = head.start;
     let words = big_at(main, start + 4);
+    // The type, the box, and the numbers of parts and points have so many.
     refuse_if(words < 22, head.fault(4, FaultKind::Content))?;
     let parts = little_at(main, start + 44);
     refuse_if(parts != 1, head.fault(44, FaultKind::Parts))?;
@@ -153,7 +156,8 @@ fn read_number(main: &[u8], unit: Unit, head: RecordHead, offset: usize) -> Resu
     requires room { head.start + offset + 8 ≤ length main.now }
     ensures checked { result_err result
         ≡ first_failure (coordinate_checks main.now unit head.position (head.start + offset) 1) }
-    ensures read { IfOk result (λ number. coordinate (layout.double_at main.now (head.start + offset)) unit ≡ Ok number) }
+    ensures read { IfOk result (λ number. coordinate (layout.double_at main.now (head.start + offset)) unit
+        ≡ Ok number) }
     ensures within { IfOk result (λ number. IsWithin limit number) }
 {
     match read_coord(double_at(main, head.start + offset), unit) {
@@ -234,7 +238,8 @@ fn read_polygon<A: Allocator + Copy>(
     requires bound { content_end < 2 ^ 32 }
     requires room { head.start + 12 ≤ content_end }
     requires corners { corners_before ≤ LAYER_CORNERS }
-    ensures checked { Finds result (first_failure (polygon_checks main.now unit head.position head.start corners_before)) }
+    ensures checked { Finds result
+        (first_failure (polygon_checks main.now unit head.position head.start corners_before)) }
     ensures end { IfOk result (λ polygon. polygon.end ≡ content_end) }
     ensures ring { IfOk result (λ polygon. IfSome polygon.ring (λ ring. (ring.number ≡ head.position)
         × IsDrawnAs unit main.now head.start polygon.drawn ring.corners)) }
@@ -273,7 +278,8 @@ pub fn read_record<A: Allocator + Copy>(
     requires within { end ≤ length main.now }
     requires start { head.start ≤ end }
     requires corners { corners_before ≤ LAYER_CORNERS }
-    ensures checked { Finds result (first_failure (record_checks main.now unit head.position head.start corners_before)) }
+    ensures checked { Finds result
+        (first_failure (record_checks main.now unit head.position head.start corners_before)) }
     ensures end { IfOk result (λ found. found.end ≡ record_end main.now head.start) }
     ensures within { IfOk result (λ found. found.end ≤ end) }
     ensures longer { IfOk result (λ found. head.start < found.end) }

@@ -9,7 +9,7 @@ ghost use Rattle.shp_files.specs.declared.source.ReadFault.TheVariants.{Device, 
 use geo_exact::{ByteIn, FILE_BYTES, Failed};
 use std::alloc::{AllocError, Allocator};
 
-/// The zeros that are added at first.
+/// The zeros that are added at first: room for a small layer at once.
 const LEAST_PIECE: usize = 16384;
 
 /// The most zeros that are added at once: so few that they are still in the processor's cache when
@@ -23,7 +23,7 @@ pub enum ReadFault {
     Device,
     /// It holds more than [`FILE_BYTES`](geo_exact::FILE_BYTES).
     TooLong,
-    /// A growth was refused.
+    /// An allocation failed.
     NoMemory,
 }
 
@@ -48,7 +48,7 @@ impl From<AllocError> for ReadFault {
 /// # Errors
 ///
 /// [`ReadFault::Device`] only where the reader failed in this call, [`ReadFault::TooLong`], and
-/// [`ReadFault::NoMemory`] only where a growth was refused. With each of them no bytes are handed on.
+/// [`ReadFault::NoMemory`] only where an allocation failed. With each of them no bytes are handed on.
 ///
 /// ```
 /// let main = read_all(alloc, &mut Counted::new(File::open(rt, path)?))?;
@@ -64,7 +64,8 @@ pub fn read_all<A: Allocator + Copy, R: ByteIn>(
     ensures bound { IfOk result (λ bytes. length bytes.items ≤ FILE_BYTES) }
     ensures too_long { IsErrOf result ReadFault.TooLong →
         IfSome (R.remaining reader.old) (λ held. FILE_BYTES < length held) }
-    ensures device { IsErrOf result ReadFault.Device → R.failure_count reader.new ≡ raised (R.failure_count reader.old) }
+    ensures device { IsErrOf result ReadFault.Device → R.failure_count reader.new
+        ≡ raised (R.failure_count reader.old) }
     ensures no_failure { (¬ IsErrOf result ReadFault.Device) → R.failure_count reader.new ≡ R.failure_count reader.old }
 {
     let mut bytes = Vec::new(alloc);

@@ -10,7 +10,8 @@ ghost use Rattle.geo_exact.specs.declared.limits.TheConstants.{LAYER_CORNERS, LA
 ghost use Rattle.shp_files.specs.LayerFile.{joined, rings_of, corner_count, IsLayerFile};
 ghost use Rattle.shp_files.specs.NormalForm.{IsNormal};
 ghost use Rattle.shp_files.specs.Written as written;
-ghost use Rattle.shp_files.specs.Written.{as_written, corner_lists, all_corners, numbered_from, written_main, written_index};
+ghost use Rattle.shp_files.specs.Written.{as_written, corner_lists, all_corners};
+ghost use Rattle.shp_files.specs.Written.{numbered_from, written_main, written_index};
 ghost use Rattle.shp_files.specs.own.Writing.{MayBeBounds};
 
 use crate::bounds::{put_box, with_corners};
@@ -36,6 +37,7 @@ fn content_words(ring: &[Corner]) -> u32
     requires { length ring.now ≤ LAYER_CORNERS }
     ensures { result ≡ written.words (written.content ring.now) }
 {
+    // 48 bytes before the points, and 16 of each.
     24 + 8 * point_count(ring)
 }
 
@@ -110,11 +112,13 @@ fn put_header<A: Allocator>(
         → OnOk result (out.new.items ≡ out.old.items ++ written.header file_words corners) }
 {
     put_big(out, FILE_CODE as u32)?;
+    // Five numbers that are not used.
     out.extend_from_slice(&[0u8; 20])?;
     put_big(out, file_words)?;
     put_little(out, VERSION as u32)?;
     put_little(out, POLYGON as u32)?;
     put_box(out, bounds)?;
+    // The ranges of heights and measures, which polygons have none of.
     out.extend_from_slice(&[0u8; 32])
 }
 
@@ -168,6 +172,7 @@ fn put_index_records<A: Allocator>(
     ensures { OnOk result
         (out.new.items ≡ out.old.items ++ written.index_records 50 (corner_lists rings.now)) }
 {
+    // In words, behind the header.
     let mut place = 50;
     for ring in rings {
         let words = content_words(ring.corners.as_slice());
@@ -262,5 +267,6 @@ pub fn a_written_file_is_a_layer_file()
 #[tactic(auto, using(crate::proofs::written::WrittenLayer::turned_back))]
 pub fn a_written_ring_is_turned_back()
     ensures { (ring : List CornerValue) → pos 0 ≤ℤ area2_of ring
-        → (if int_lt (area2_of (as_written ring)) (pos 0) then turned_round (as_written ring) else as_written ring) ≡ ring }
+        → (if int_lt (area2_of (as_written ring)) (pos 0) then turned_round (as_written ring) else as_written ring)
+        ≡ ring }
 {}

@@ -5,8 +5,8 @@ use Rattle.std.specs.List.{flat_map}
 use Rattle.text_pieces.specs.CornerText.{corner_text, next_corner_text}
 use Rattle.text_pieces.specs.RingFaultText.{ring_fault_text}
 use Rattle.text_pieces.specs.declared.pieces.Piece.{Piece}
-use Rattle.text_pieces.specs.declared.pieces.Piece.TheVariants.{Text, Number, Area, SignedArea, Net, Corner, Numbers, Corners}
-use Rattle.text_pieces.specs.declared.pieces.Piece.TheVariants.{Refused, EndOfLine}
+use Rattle.text_pieces.specs.declared.pieces.Piece.TheVariants.{Text, Number, Area, SignedArea, Net, Corner, Numbers}
+use Rattle.text_pieces.specs.declared.pieces.Piece.TheVariants.{Corners, Refused, EndOfLine}
 
 -- ` N`, a number behind a space
 abbrev pub number_text : ℕ → List ℕ

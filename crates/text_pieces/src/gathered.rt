@@ -39,7 +39,8 @@ impl<'w, W: ByteOut> Gathered<'w, W> {
     pub fn finish(&mut self) -> Result<(), Failed>
         ensures ok { OnOk result (Appends (W.written self.old.out.now) (W.written self.new.out.now) self.old.pending) }
         ensures none_left { OnOk result (self.new.pending ≡ []) }
-        ensures err { OnErr result (AppendsBeginning (W.written self.old.out.now) (W.written self.new.out.now) self.old.pending) }
+        ensures err { OnErr result (AppendsBeginning (W.written self.old.out.now) (W.written self.new.out.now)
+            self.old.pending) }
         ensures failed { OnErr result (W.failure_count self.new.out.now ≡ raised (W.failure_count self.old.out.now)) }
         ensures no_failure { OnOk result (W.failure_count self.new.out.now ≡ W.failure_count self.old.out.now) }
         ensures same_reference { self.new.out.ghost_name ≡ self.old.out.ghost_name }
@@ -54,11 +55,14 @@ impl<'w, W: ByteOut> Sink for Gathered<'w, W> {
     ghost use Rattle.std.proofs.Common.{refl, ap, ◌∙◌};
     ghost use Rattle.text_pieces.specs.own.Gathering.{passes_nothing, passes_both, begins_later, begins_before};
 
-    ghost takes = { λ old piece new. Passes (W.written old.out.now) (W.written new.out.now) old.pending piece new.pending
+    ghost takes = { λ old piece new. Passes (W.written old.out.now) (W.written new.out.now)
+        old.pending piece new.pending
         × (W.failure_count new.out.now ≡ W.failure_count old.out.now) × (new.out.ghost_name ≡ old.out.ghost_name) };
 
-    ghost breaks_off = { λ old piece new. AppendsBeginning (W.written old.out.now) (W.written new.out.now) (old.pending ++ piece)
-        × (W.failure_count new.out.now ≡ raised (W.failure_count old.out.now)) × (new.out.ghost_name ≡ old.out.ghost_name) };
+    ghost breaks_off = { λ old piece new. AppendsBeginning (W.written old.out.now) (W.written new.out.now)
+        (old.pending ++ piece)
+        × (W.failure_count new.out.now ≡ raised (W.failure_count old.out.now))
+        × (new.out.ghost_name ≡ old.out.ghost_name) };
 
     fn push_piece(&mut self, piece: &str) -> Result<(), Failed> {
         self.pending.add(piece.as_bytes(), self.out)
@@ -66,7 +70,11 @@ impl<'w, W: ByteOut> Sink for Gathered<'w, W> {
 
     ghost takes_nothing = { λ text. (passes_nothing (W.written text.out.now) text.pending, refl, refl) };
 
-    ghost takes_both = { λ a b c first second h k. (passes_both _ _ _ _ _ _ first second h.0 k.0, k.1 ∙ h.1, k.2 ∙ h.2) };
+    ghost takes_both = { λ a b c first second h k. (
+      passes_both _ _ _ _ _ _ first second h.0 k.0,
+      k.1 ∙ h.1,
+      k.2 ∙ h.2,
+    ) };
 
     ghost breaks_off_later = { λ a b c first second h k. (
       begins_later _ _ _ _ _ first second h.0 k.0,

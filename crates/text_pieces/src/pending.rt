@@ -11,7 +11,7 @@ use arrayvec::ArrayVec;
 use geo_exact::{ByteOut, Failed};
 use std::marker::Model;
 
-// How many bytes are gathered before they are put.
+// How many bytes are gathered before they are put: so many that puts are few, and so few that they fit on a stack.
 const ROOM: usize = 4096;
 
 /// The end of a text, which is gathered and not put yet, so that short pieces make few puts. It

@@ -70,7 +70,8 @@ pub fn push_pieces<S: Sink>(text: &mut S, pieces: &[Piece<'_>]) -> Result<(), S:
 /// ```
 pub fn push_parts<S: Sink>(text: &mut S, parts: &[&[Piece<'_>]]) -> Result<(), S::Fault>
     ensures ok { OnOk result (S.takes text.old (flat_map (λ part. flat_map piece_text part.now) parts.now) text.new) }
-    ensures err { OnErr result (S.breaks_off text.old (flat_map (λ part. flat_map piece_text part.now) parts.now) text.new) }
+    ensures err { OnErr result
+        (S.breaks_off text.old (flat_map (λ part. flat_map piece_text part.now) parts.now) text.new) }
 {
     for part in parts {
         push_pieces(text, part)?;

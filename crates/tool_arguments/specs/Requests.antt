@@ -10,7 +10,8 @@ use Rattle.tool_arguments.specs.declared.requests.Inputs.{Inputs}
 use Rattle.tool_arguments.specs.declared.requests.Points.{Points}
 use Rattle.tool_arguments.specs.declared.requests.Points.TheVariants.{At, File}
 use Rattle.tool_arguments.specs.declared.requests.Request.{Request}
-use Rattle.tool_arguments.specs.declared.requests.Request.TheVariants.{Area, Check, Explain, Export, Locate, Overlay, Part, Session}
+use Rattle.tool_arguments.specs.declared.requests.Request.TheVariants.{Area, Check, Explain, Export, Locate, Overlay}
+use Rattle.tool_arguments.specs.declared.requests.Request.TheVariants.{Part, Session}
 use Rattle.tool_arguments.specs.declared.requests.Session.{Session as SessionValue}
 use Rattle.tool_arguments.specs.declared.requests.Wanted.{Wanted}
 use Rattle.tool_arguments.specs.declared.words.Verb.{Verb}

@@ -216,7 +216,8 @@ fn areas<'a>(alloc: Global) -> Arg<'a> {
 fn part_command<'a>(alloc: Global) -> Result<Command<'a>, AllocError> {
     Command::new(alloc, "part")
         .about(
-            "Writes, where districts tile their city, one of them or each as a city of its own, and prints twice its area",
+            "Writes, where districts tile their city, one of them or each as a city of its own, and prints twice its \
+             area",
         )
         .arg(file(alloc, "CITY", "The main file of the city's layer, .shp"))?
         .arg(file(

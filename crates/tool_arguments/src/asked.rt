@@ -6,9 +6,9 @@ ghost use Rattle.geo_exact.specs.declared.coord.Unit.{Unit as LengthUnit};
 ghost use Rattle.line_files.specs.TextNumbers.{AreCornerWords};
 ghost use Rattle.line_files.specs.declared.grids.Grid.TheVariants.{Millimetres};
 ghost use Rattle.tool_arguments.specs.Arguments.{IsUnit, IsNoUnit, AreWorkers, IsNoWorkerCount, IsBeyondWorkers};
-ghost use Rattle.tool_arguments.specs.Requests.{AreInputs, HasNoInputs, AreDistrictWords, HasNoDistricts, AreWanted, IsNoChoice};
-ghost use Rattle.tool_arguments.specs.Requests.{ArePoints, HasNoPoints};
-ghost use Rattle.tool_arguments.specs.Requests.{IsRequest, IsMissing, MayHaveWorkers, verb_of, given, first_of};
+ghost use Rattle.tool_arguments.specs.Requests.{AreInputs, HasNoInputs, AreDistrictWords, HasNoDistricts};
+ghost use Rattle.tool_arguments.specs.Requests.{AreWanted, IsNoChoice, ArePoints, HasNoPoints, IsRequest};
+ghost use Rattle.tool_arguments.specs.Requests.{IsMissing, MayHaveWorkers, verb_of, given, first_of};
 
 use crate::requests::{Districts, Inputs, Points, Request, Session, Wanted, Workers};
 use crate::words::{Verb, Words};
@@ -21,7 +21,7 @@ use std::alloc::{AllocError, Global};
 ///
 /// # Errors
 ///
-/// [`AllocError`] where an allocation is refused.
+/// [`AllocError`] where an allocation fails.
 pub fn request_of<'a>(
     alloc: Global,
     verb: Verb,
@@ -283,7 +283,8 @@ fn points_of<'a>(alloc: Global, words: &Words<'_, 'a>) -> Result<Option<Points<'
 
 /// The corners whose coordinates the words are, two and two; `None` where they are none.
 fn corners_of(alloc: Global, words: &[&str]) -> Result<Option<Corners<Global>>, AllocError>
-    ensures found { IfOk result (λ corners. IfSome corners (AreCornerWords Millimetres (map (λ word. word.now) words.now))) }
+    ensures found { IfOk result (λ corners. IfSome corners
+        (AreCornerWords Millimetres (map (λ word. word.now) words.now))) }
     ensures none { IfOk result (λ corners. IfNone corners
         ((list : List Corner) → ¬ AreCornerWords Millimetres (map (λ word. word.now) words.now) list)) }
 {

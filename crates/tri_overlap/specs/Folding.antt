@@ -1,4 +1,5 @@
--- Two triangles of one list whose interiors meet (OGC 06-103r4, 6.1.13, MultiSurface: the interiors of its surfaces may not intersect).
+-- Two triangles of one list whose interiors meet (OGC 06-103r4, 6.1.13, MultiSurface: the interiors of its surfaces may
+-- not intersect).
 use Rattle.std.specs.Prelude.{◌≡◌, ℕ, List, Some, slice_get, length}
 use Rattle.geo_exact.specs.First.{HasNoPair, IsFirstPair}
 use Rattle.geo_exact.specs.Interiors.{InteriorsMeet}

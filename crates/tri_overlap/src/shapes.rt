@@ -11,7 +11,7 @@ use geo_exact::Bounds;
 use ring_core::{Shape, Tri, bounds_of};
 use std::alloc::Allocator;
 
-/// Where either list has so few triangles, each pair is tried.
+/// Where either list has so few triangles, each pair is tried: to halve such a list takes longer than it spares.
 const FEW: usize = 8;
 
 /// Whether the triangle's interior meets that of some triangle of the list; the window has all such points.
@@ -69,7 +69,7 @@ fn meet_within(window: Bounds, first: &[Tri], second: &[Tri]) -> bool
 /// nine-intersection matrix (OGC 06-103r4, 6.1.15.2). Touching is no overlap; it takes no memory.
 ///
 /// Shapes whose boxes are apart are told so at once. Else the lists of triangles are halved and
-/// halved again, and parts that have no place in common are left out. At worst, where nearly all
+/// halved again, and parts that have no point in common are left out. At worst, where nearly all
 /// boxes meet, the time grows with the product of the numbers of triangles.
 ///
 /// ```

@@ -49,7 +49,8 @@ fn misses(triangle: &Tri, bounds: Bounds) -> bool
 /// The box, widened to what the triangle has in the window.
 fn widened(bounds: Bounds, window: Bounds, triangle: &Tri) -> Bounds
     ensures kept { (p : Point) → IsInsideBox p bounds → IsInsideBox p result }
-    ensures added { (p : Point) → IsInterior p (triangle_ring triangle.now) → IsInsideBox p window → IsInsideBox p result }
+    ensures added { (p : Point) → IsInterior p (triangle_ring triangle.now) → IsInsideBox p window
+        → IsInsideBox p result }
 {
     let own = bounds_of(triangle);
     if window.is_wider(own) {

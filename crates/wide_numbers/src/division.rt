@@ -24,6 +24,7 @@ fn half_shared(rest: u128, half: u64, divisor: u128) -> Shared
     ensures left { result.rest < divisor }
     ensures half { result.quotient < 2 ^ 32 }
 {
+    // It fits: what is left is below the divisor, so below 2 ^ 96.
     let whole = rest * u128::from(HALF) + u128::from(half);
     Shared {
         quotient: (whole / divisor) as u64,

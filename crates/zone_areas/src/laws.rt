@@ -15,5 +15,6 @@ pub fn areas_in_zones_add_up()
     ensures in_city { (parcel city : List Corner) (zones : List NumberedRing) → IsTiling zones city
         → AreEqual (common_with parcel (corner_lists zones)) (common_area2 parcel city) }
     ensures whole { (parcel city : List Corner) (zones : List NumberedRing) → IsTiling zones city
-        → WindsOnce parcel → IsCoveredBy parcel city → AreEqual (common_with parcel (corner_lists zones)) (whole (area2 parcel)) }
+        → WindsOnce parcel → IsCoveredBy parcel city
+        → AreEqual (common_with parcel (corner_lists zones)) (whole (area2 parcel)) }
 {}

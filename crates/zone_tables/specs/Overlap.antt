@@ -32,7 +32,7 @@ pub record IsOverlapTable (rows zones : List NumberedRing) (pairs : List (ℕ ×
   pub ascend : AreInPairOrder pairs
   pub exactly : (id zone : ℕ) → Contains pairs (id, zone) ↔ Overlaps rows zones id zone
 
--- what a table shows: the parcels' rows and the zones', the city that both tile, the pairs, and how many entries the parcels' journal had
+-- what a table shows: the rows of parcels and zones, the city that both tile, the pairs, and the journal's length
 pub record Overlay : Type 0 where
   pub rows : List NumberedRing
   pub zones : List NumberedRing

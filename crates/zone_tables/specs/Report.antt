@@ -44,7 +44,8 @@ pub record IsReport (table : Overlay) (text : List ℕ) : Type 0 where
   pub are_split : AreSplitZoned table.rows table.zones splits
   pub others : List (ℕ × ℕ)
   pub are_within : AreWithinZones table.rows table.zones others
-  pub each_is_told : (id : ℕ) → Contains (numbers table.rows) id → Contains splits id ⊎ Contains (map (λ pair. pair.0) others) id
+  pub each_is_told : (id : ℕ) → Contains (numbers table.rows) id
+      → Contains splits id ⊎ Contains (map (λ pair. pair.0) others) id
   pub is_text : text ≡ entries_line table.entries ++ flat_map pair_line table.pairs ++ flat_map split_line splits
       ++ flat_map within_line others
 

@@ -63,7 +63,8 @@ fn push_splits<S: Sink>(text: &mut S, pairs: &[(u64, u64)]) -> Result<(), S::Fau
 /// Adds a line for each parcel that has one pair, with its zone.
 fn push_singles<S: Sink>(text: &mut S, pairs: &[(u64, u64)]) -> Result<(), S::Fault>
     ensures ok { OnOk result (S.takes text.old (flat_map within_line (single_zones (zonings pairs.now))) text.new) }
-    ensures err { OnErr result (S.breaks_off text.old (flat_map within_line (single_zones (zonings pairs.now))) text.new) }
+    ensures err { OnErr result
+        (S.breaks_off text.old (flat_map within_line (single_zones (zonings pairs.now))) text.new) }
 {
     for parcel in Zonings::new(pairs) {
         if !parcel.is_split {

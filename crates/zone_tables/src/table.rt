@@ -44,7 +44,8 @@ impl<'t, 'h, H: Allocator, A: Allocator> Model for Table<'t, 'h, H, A> {
     } };
 
     ghost invariant = { λ table.
-        IsOverlapTable table.sheet.now.now.rows table.zones.now.rows table.pairs.items × (table.zones.now.city ≡ table.sheet.now.city) };
+        IsOverlapTable table.sheet.now.now.rows table.zones.now.rows table.pairs.items
+        × (table.zones.now.city ≡ table.sheet.now.city) };
 }
 
 impl<'t, 'h, H: Allocator, A: Allocator> Table<'t, 'h, H, A> {
@@ -69,7 +70,8 @@ impl<'t, 'h, H: Allocator, A: Allocator> Table<'t, 'h, H, A> {
         }
     }
 
-    /// The pairs are all those of a parcel and a zone whose interiors meet, and parcels and zones both tile the city.
+    /// Only teaches the prover: the pairs are all those of a parcel and a zone whose interiors meet, and parcels and
+    /// zones both tile the city.
     pub fn use_invariant(&self)
         ensures table { IsOverlapTable self.now.rows self.now.zones self.now.pairs }
         ensures tiling { IsTiling self.now.rows self.now.city }

@@ -78,8 +78,9 @@ class Overlaps:
     """Which parcels and zones have a common point inside, after `entries` edits.
 
     `pairs` has rows (parcel, zone), int64 of shape (n, 2), ascending; `split` the parcels in two zones or more;
-    `within` rows (parcel, zone) of the others, int64 of shape (m, 2). `area2` has for each pair twice the area that both
-    have in common, in mm2, at most 1 away; those of a parcel sum to its own. It is None where no areas were asked for.
+    `within` rows (parcel, zone) of the others, int64 of shape (m, 2). `area2` has for each pair twice the area that
+    both have in common, in mm2, at most 1 away; those of a parcel sum to its own. It is None where no areas were asked
+    for.
     """
 
     entries: int
@@ -180,7 +181,8 @@ def tiling_of(lines: Sequence[str]) -> Tiling:
 
 
 def overlaps_of(lines: Sequence[str], areas: bool = False) -> Overlaps:
-    """The report of `overlay`, or of `overlay areas`. Raises `BadAnswer`, also where an area is not of the pair in its place."""
+    """The report of `overlay`, or of `overlay areas`. Raises `BadAnswer`, also where an area is not of the pair in its
+    place."""
     entries = count_of(lines[0] if lines else "", "entries")
     told: Dict[str, List[Tuple[int, ...]]] = {"pair": [], "within": [], "split": []}
     count = sum(line.startswith("pair ") for line in lines) if areas else 0

@@ -150,9 +150,10 @@ def overlay(
     """The pairs of a parcel and a zone whose interiors have a common point, by number and then by zone.
 
     Columns: number, zone, split (whether the parcel lies in two zones or more), area2_mm2 (text: twice the area that
-    both have in common in mm2), area_m2, area_how, geometry (the parcel's, as given). With area_how `proved` an area2_mm2
-    is at most 1 away from the exact one, and those of a parcel sum to its own; else it is missing, and area_m2 `measured`.
-    Refused H2 where parcels or zones do not tile the city (`report` answers there, too), H1, H3, F.., P...
+    both have in common in mm2), area_m2, area_how, geometry (the parcel's, as given). With area_how `proved` an
+    area2_mm2 is at most 1 away from the exact one, and those of a parcel sum to its own; else it is missing, and
+    area_m2 `measured`. Refused H2 where parcels or zones do not tile the city (`report` answers there, too), H1, H3,
+    F.., P...
     """
     prepared = (
         parcels
@@ -285,7 +286,8 @@ def apply(
     skip_invalid: bool = False,
     narrow: float = 1.0,
 ) -> gpd.GeoDataFrame:
-    """The parcels of an island after edits (`Split`, `Merge`, `Move`, `Insert`, `Straighten`, or lines of a clerk's file in mm).
+    """The parcels of an island after edits (`Split`, `Merge`, `Move`, `Insert`, `Straighten`, or lines of a clerk's
+    file in mm).
 
     As `back` returns them: with their attributes, `came_from` and `edited`. `.attrs["answers"]` has the program's
     answer to each edit, in order: `ok` and the entry's number, or `refused` and why; a refused edit changes nothing.

@@ -49,14 +49,16 @@ class Calls:
         return self.edit(Insert(first, last, new))
 
     def straighten(self, corner: Corner) -> Accepted:
-        """Removes the corner from every parcel that contains it, provided no ring bends there. Raises as `edit` does."""
+        """Removes the corner from every parcel that contains it, provided no ring bends there. Raises as `edit`
+        does."""
         return self.edit(Straighten(corner))
 
     def edit(self, edit: Edit, who: Optional[str] = None) -> Accepted:
         """Makes an edit, with ids as its parcels. Raises `RefusedEdit` where nothing has changed.
 
         `who` says who edits and why, as it is to stand in the journal: 1 to 200 bytes without control characters, else
-        `NoSuchLine`. Where it raises `ProgramEnded`, `TimedOut` or `JournalBroken`, the edit may stand in the journal all the same.
+        `NoSuchLine`. Where it raises `ProgramEnded`, `TimedOut` or `JournalBroken`, the edit may stand in the journal
+        all the same.
         """
         line = line_of(edit, _whole, _path)
         return accepted_of(self.ask(line if who is None else f"by {who}: {line}"))

@@ -149,8 +149,8 @@ class CardsMissing(SessionError):
 class JournalRefused(SessionError):
     """A session did not begin for its journal: ``line`` of it, from 1, was changed, or its edit doesn't fit (E1 ..).
 
-    "no journal": the file is not empty, and no journal. "another layer": it was begun with other parcels. S1: it can't be
-    opened, made or read, or is no regular file. The file is not touched.
+    "no journal": the file is not empty, and no journal. "another layer": it was begun with other parcels. S1: it can't
+    be opened, made or read, or is no regular file. The file is not touched.
     """
 
     def __init__(self, code: str, text: str, line: Optional[int] = None) -> None:

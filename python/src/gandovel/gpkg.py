@@ -272,7 +272,8 @@ def _put_styles(connection: sqlite3.Connection, styles: Dict[str, str]) -> None:
 
 
 def read_layer_of(path: Union[str, Path], name: str, change: Optional[str] = None) -> gpd.GeoDataFrame:
-    """A layer that `write_layers` wrote, by SQLite, in a tenth of the time that GeoPandas takes; or its rows of a `change`."""
+    """A layer that `write_layers` wrote, by SQLite, in a tenth of the time that GeoPandas takes; or its rows of a
+    `change`."""
     return read_table_of(path, name, change).frame()
 
 

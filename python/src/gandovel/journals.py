@@ -126,7 +126,8 @@ class Chain:
         return found
 
     def end(self) -> int:
-        """How many bytes of a further record's beginning stand at the end. Raises `JournalRefused` where they are none."""
+        """How many bytes of a further record's beginning stand at the end. Raises `JournalRefused` where they are
+        none."""
         if not self.layer:
             raise JournalRefused("no journal", "")
         stamp, line_feed, _ = self.rest.partition(b"\n")

@@ -50,10 +50,10 @@ def write_map(report: Union[str, Path], out: Union[str, Path]) -> None:
 
     `report` is a GeoPackage that `gandovel report` wrote: its layer `parcels`, and those of `zones`, `gaps`,
     `overlaps`, `open_gaps`, `slivers`, `touched`, `skipped`, `split` and `split_parts` that are there. `out` is the
-    page, written under another name and then renamed. Coordinates are rounded to millimetres for the drawing. Areas of faults are the
-    report's exact ones, and those of parts the report's, too; those of parcels and zones are measured by the page, and
-    which parcels overlap by GEOS, which the page says. Refused P1 where the report is no such file, P14 where the page
-    can't be written.
+    page, written under another name and then renamed. Coordinates are rounded to millimetres for the drawing. Areas of
+    faults are the report's exact ones, and those of parts the report's, too; those of parcels and zones are measured by
+    the page, and which parcels overlap by GEOS, which the page says. Refused P1 where the report is no such file, P14
+    where the page can't be written.
     """
     out = Path(out)
     aside = out.with_name(f".{os.getpid()}.{out.name}")
@@ -205,7 +205,8 @@ def _layer(connection: sqlite3.Connection, name: str, wanted: Sequence[str]) -> 
 
 
 def _rings(blob: Optional[bytes]) -> Rings:
-    """The rings of a GeoPackage's shape, each (k, 2) in the layer's unit and not closed; a point is one of one corner."""
+    """The rings of a GeoPackage's shape, each (k, 2) in the layer's unit and not closed; a point is one of one
+    corner."""
     if blob is None:
         return []
     if blob[:2] != b"GP":

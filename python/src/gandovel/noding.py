@@ -61,7 +61,8 @@ def points_of(corners: Array) -> Tuple[Array, Array]:
 
 
 def _whole_points_of(corners: Array) -> Optional[Tuple[Array, Array]]:
-    """As `points_of`, sorted once, where all coordinates are whole and their box has less than 2^62 places; else None."""
+    """As `points_of`, sorted once, where all coordinates are whole and their box has less than 2^62 places; else
+    None."""
     if not len(corners) or not (np.abs(corners) < 2.0**52).all() or not (corners == np.rint(corners)).all():
         return None
     whole = corners.astype(np.int64)
@@ -245,7 +246,8 @@ def put_in(
 
 
 def _same_sides(loops: Loops, ends: Array, found: Array) -> Array:
-    """A number for each point that touches a side: the same for the same point at the same side, whichever way it runs."""
+    """A number for each point that touches a side: the same for the same point at the same side, whichever way it
+    runs."""
     a, b = loops.corners[found[:, 0]], ends[found[:, 0]]
     keys = np.column_stack([found[:, 1], np.minimum(a, b), np.maximum(a, b)])
     return np.asarray(np.unique(keys, axis=0, return_inverse=True)[1]).reshape(-1)

@@ -13,16 +13,16 @@ REPORT = {
     "Measured by GEOS: numbers, the parcels that cover the overlap.",
     "open_gaps": "Measured by GEOS, then rounded to whole millimetres: notches and channels of the city that the "
     "parcels make, open to the outside and narrow (--narrow); numbers, the parcels beside them.",
-    "slivers": "Gaps and overlaps that are nowhere wider than the distance at which a corner touches a border. Exact, by "
-    "the program's edges: area2_mm2, depth. Measured by GEOS: that they are so narrow; numbers of overlaps.",
+    "slivers": "Gaps and overlaps that are nowhere wider than the distance at which a corner touches a border. Exact, "
+    "by the program's edges: area2_mm2, depth. Measured by GEOS: that they are so narrow; numbers of overlaps.",
     "touched": "Corners that were put into a border that they are off by no more than the rounding of the layer; the "
     "border goes through them now. Measured: distance_mm, closed_m2, the area that this closed.",
     "skipped": "Rows that were left out since their geometry is invalid (--skip-invalid).",
-    "split": "Exact, by the program: number, zones, zone_count. Measured by GEOS where sliver_how says so, else proved: "
-    "sliver.",
-    "split_parts": "Exact, by the program: number, zone. Proved where area_how says so: each area2_mm2 is at most 1 away "
-    "from twice the exact area in mm2, and those of a parcel sum to its own. Measured by GEOS elsewhere: area_m2, share, "
-    "sliver; and everywhere the shapes.",
+    "split": "Exact, by the program: number, zones, zone_count. Measured by GEOS where sliver_how says so, else "
+    "proved: sliver.",
+    "split_parts": "Exact, by the program: number, zone. Proved where area_how says so: each area2_mm2 is at most 1 "
+    "away from twice the exact area in mm2, and those of a parcel sum to its own. Measured by GEOS elsewhere: area_m2, "
+    "share, sliver; and everywhere the shapes.",
 }
 CHANGES = {
     "changes": "Corners that prepare moved to the grid or put into a border that they touch, where they were. "

@@ -87,7 +87,8 @@ class _Work:
         loop: Array,
         area: Optional[Array] = None,
     ) -> Changes:
-        """Notes corners (n, 2) in mm that are changed, how far each, the loops that have them, the areas that change."""
+        """Notes corners (n, 2) in mm that are changed, how far each, the loops that have them, the areas that
+        change."""
         to = np.floor(corners + 0.5).astype(np.int64)
         areas = np.zeros(len(corners)) if area is None else area
         told = Changes(
@@ -271,7 +272,8 @@ def _test_far(around: Array, unit: Unit, role: str) -> None:
 
 
 def _test_beside(frame: gpd.GeoDataFrame, role: str, parcels: gpd.GeoDataFrame, around: Array, unit: Unit) -> None:
-    """Refuses a layer whose projection is not that of the parcels (P7), or that lies too far out (P9) or elsewhere (P11)."""
+    """Refuses a layer whose projection is not that of the parcels (P7), or that lies too far out (P9) or elsewhere
+    (P11)."""
     unnamed = unit.how == "told" and (frame.crs is None or parcels.crs is None)
     if not unnamed and not sources.same_projection(parcels.crs, frame.crs):
         names = f"{_name(frame.crs)}, {_name(parcels.crs)}"
@@ -315,7 +317,8 @@ def _taken_apart(layers: _Layers, grid: Optional[float], touch: Optional[float])
 def _outlines_and_zones(
     work: _Work, layers: _Layers, frame: bool, narrow: float
 ) -> Tuple[List[Polygon], Dict[int, int], List[OpenGap]]:
-    """The city's parts, put among the loops; where zones were cut to them, in which of them a zone's part lies; gaps."""
+    """The city's parts, put among the loops; where zones were cut to them, in which of them a zone's part lies;
+    gaps."""
     layer = work.loops.layer
     parts = on_grid.outlines(work.loops.take(layer == (PARCELS if layers.city is None else CITY)), work.points)
     gaps = [] if layers.city is not None else open_gaps(parts, narrow, max(LEAST_OPEN, work.reaches.touch))

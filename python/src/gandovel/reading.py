@@ -19,7 +19,8 @@ from .gpkg import typed
 from .large.reading import read_large
 
 Source = Union[str, "os.PathLike[str]", gpd.GeoDataFrame, gpd.GeoSeries]
-"""A layer: a path, or text that GDAL opens (`/vsizip/..`, `PG:..`, an URL of a file, `PATH|layername=NAME`), or frames."""
+"""A layer: a path, or text that GDAL opens (`/vsizip/..`, `PG:..`, an URL of a file, `PATH|layername=NAME`), or
+frames."""
 LOG = logging.getLogger("gandovel")
 ANY_DRIVER = {"allow_unsupported_drivers": True}
 """Fiona opens what GDAL does, and not those formats alone that its own tests try: PostgreSQL is none of them."""
@@ -76,7 +77,8 @@ def _address(text: str, layer: Optional[str]) -> Tuple[str, Optional[str]]:
 
 
 def _layer_name(path: str, layer: Optional[str], role: str) -> str:
-    """The layer that is told, or the only one that has areas (points, for points). Refused P1 where there is a choice."""
+    """The layer that is told, or the only one that has areas (points, for points). Refused P1 where there is a
+    choice."""
     names = fiona.listlayers(path)
     if layer is not None:
         if layer not in names:
@@ -95,7 +97,8 @@ def _layer_name(path: str, layer: Optional[str], role: str) -> str:
 
 
 def _may_have(kinds: Tuple[str, ...], path: str, name: str) -> bool:
-    """Whether a layer's shapes are of these kinds, as far as its source says. Curves, which Fiona can't open, are areas."""
+    """Whether a layer's shapes are of these kinds, as far as its source says. Curves, which Fiona can't open, are
+    areas."""
     try:
         with fiona.open(path, layer=name, **ANY_DRIVER) as opened:
             return opened.schema["geometry"] in kinds and name != "layer_styles"

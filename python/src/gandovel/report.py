@@ -52,10 +52,10 @@ class Report:
     area_how, area, unit, depth, numbers, numbers_how, touched): exact, but for the numbers of overlaps, which GEOS
     measures. `slivers` are gaps and overlaps that are nowhere wider than what touches (measured), `open_gaps` notches
     and channels of the city that the parcels make (measured). `split` (number, zones, zone_count, sliver, sliver_how):
-    exact, but for sliver. `parts` (number, zone, area2_mm2, area_m2, area_how, share, sliver): which there are is exact,
-    and areas are proved where parcels and zones tile (each area2_mm2 within 1, and those of a parcel sum to its own), else
-    measured. `pairs`: (number, zone, whether the parcel is split, area2_mm2 or None) of each parcel and zone that overlap,
-    exact, with proved areas. `parcels`
+    exact, but for sliver. `parts` (number, zone, area2_mm2, area_m2, area_how, share, sliver): which there are is
+    exact, and areas are proved where parcels and zones tile (each area2_mm2 within 1, and those of a parcel sum to its
+    own), else measured. `pairs`: (number, zone, whether the parcel is split, area2_mm2 or None) of each parcel and zone
+    that overlap, exact, with proved areas. `parcels`
     (number, records, status), `zones`, `touched` (corners that were made to touch a border), `skipped` (rows that were
     left out). `split_table`, `parts_table` and `parcels_table` are what the frames are made of once they are asked for.
     """
@@ -117,7 +117,8 @@ class Report:
         return gpd.GeoDataFrame(both, geometry="geometry", crs=self.gaps.crs)
 
     def summary(self) -> str:
-        """One line: islands, what was left out, gaps and overlaps with their areas, split parcels, whence the city is."""
+        """One line: islands, what was left out, gaps and overlaps with their areas, split parcels, whence the city
+        is."""
         count, unit = len(self.prepared.islands), self.prepared.unit
         texts = [f"{count} islands"] if count > 1 else []
         texts += [*self.prepared.skipped_told(), _told(self, "parcels")]
@@ -140,7 +141,8 @@ class Report:
         return "; ".join([*texts, CITIES[self.prepared.told["city"]]])
 
     def save(self, path: Union[str, Path]) -> None:
-        """Writes the GeoPackage and `split.csv` beside it, each under another name first. Refused P14 for other names."""
+        """Writes the GeoPackage and `split.csv` beside it, each under another name first. Refused P14 for other
+        names."""
         path = Path(path)
         test_name(path)
         layers: List[Tuple[str, Union[gpd.GeoDataFrame, Table]]] = [
@@ -410,7 +412,8 @@ def _text_of(area2: Optional[int]) -> Optional[str]:
 
 
 def _parts(prepared: Prepared, pairs: Dict[Tuple[int, str], List[Member]], min_area: float) -> Table:
-    """The parts of split parcels in zones; GEOS makes their shapes on the grid, near the origin, and measures the rest."""
+    """The parts of split parcels in zones; GEOS makes their shapes on the grid, near the origin, and measures the
+    rest."""
     zone_rows = {name: row for row, name in reversed(list(enumerate(prepared.zone_names)))}
     keys = sorted(pairs, key=lambda key: (key[0], zone_rows.get(key[1], -1)))
     owner = np.repeat(np.arange(len(keys)), [len(pairs[key]) for key in keys])

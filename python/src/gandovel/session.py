@@ -90,7 +90,8 @@ class Session(Calls):
 
         The edits of `journal` are made first, and each further edit is written to it; it is made where it isn't there.
         Each name of `desks`, eight at most, gets two named pipes in a folder of the session's own. `workers` is
-        handed on; an overlay of a session takes one thread all the same. The start and each call may take `timeout` seconds.
+        handed on; an overlay of a session takes one thread all the same. The start and each call may take `timeout`
+        seconds.
 
         Refused as the program's commands are (H2, S1 ..); `JournalRefused`, `JournalInUse`; `ProgramEnded`; `TimedOut`.
         """
@@ -152,15 +153,17 @@ class Session(Calls):
         return tiling_of(self._reported("check"))
 
     def overlay(self, areas: bool = False) -> Overlaps:
-        """Which parcels and zones overlap now; with `areas` also how much of each parcel lies in each zone. Raises `NoZones`."""
+        """Which parcels and zones overlap now; with `areas` also how much of each parcel lies in each zone. Raises
+        `NoZones`."""
         return overlaps_of(self._reported("overlay areas" if areas else "overlay"), areas)
 
     def export(self, base: PathLike) -> int:
         """Writes the parcels of now to `base`.shp and `base`.shx, in mm, and answers how many they are.
 
-        Records are numbered anew, by ascending ids. Raises `SessionError`, and nothing is written: with code S2 where they
-        can't be written, with S5 where `base` names files of the session's own (a layer that it read, its journal, a pipe),
-        with S6 where a table or a projection stands beside, and with `no base` where it ends in `.shp` or is a folder.
+        Records are numbered anew, by ascending ids. Raises `SessionError`, and nothing is written: with code S2 where
+        they can't be written, with S5 where `base` names files of the session's own (a layer that it read, its journal,
+        a pipe), with S6 where a table or a projection stands beside, and with `no base` where it ends in `.shp` or is a
+        folder.
         """
         return count_of("\n".join(self._reported(f"export {_text(base)}")), "exported")
 

@@ -148,7 +148,8 @@ def plain_wkb(corners: Array, ends: Array) -> List[bytes]:
 
 
 def valid_of(polygons: Iterable[Sequence[Array]]) -> List[bool]:
-    """Of polygons, each an outer ring and holes (k, 2) without the first corner again, whether GEOS says it is valid."""
+    """Of polygons, each an outer ring and holes (k, 2) without the first corner again, whether GEOS says it is
+    valid."""
     closed = ([np.concatenate([ring, ring[:1]]) for ring in rings] for rings in polygons)
     return [bool(shape.is_valid) for shape in shapes_of(polygon_wkb(rings) for rings in closed)]
 

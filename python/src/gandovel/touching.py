@@ -54,7 +54,8 @@ class Reaches:
 
 
 def reaches_of(loops: Loops, scale: float, noise: float, grid: Optional[float], touch: Optional[float]) -> Reaches:
-    """The reaches of layers, whose loops are of coordinates in mm, `scale` mm a unit; `grid` and `touch` if told, in mm."""
+    """The reaches of layers, whose loops are of coordinates in mm, `scale` mm a unit; `grid` and `touch` if told, in
+    mm."""
     layer = np.repeat(loops.layer, np.diff(loops.starts))
     steps = [grid or step_of(loops.corners[layer == at], scale, noise) for at in range(len(ROLES))]
     reaches = [(DIAGONAL * (step or 0.0) if touch is None else touch) / 2 for step in steps]

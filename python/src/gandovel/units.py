@@ -30,7 +30,8 @@ MOST_DISTORTION = 0.01
 TOLD = "say its unit by --unit: m, mm, cm, dm, km, ft, us-ft, yd, in, or how many metres it is"
 
 UNDEFINED = "Undefined "
-"""So the two entries are called by which a GeoPackage says that a layer has no projection (OGC 12-128r18, srs_id 0, -1)."""
+"""So the two entries are called by which a GeoPackage says that a layer has no projection (OGC 12-128r18, srs_id 0,
+-1)."""
 
 
 @dataclass(frozen=True)

@@ -186,7 +186,8 @@ def overlay_island(folder: Path, island: Island, parcels: LayerFaults, zones: La
 
 
 def tiling_overlaid(folder: Path, island: Island) -> Overlaid:
-    """The pairs of rows, from 0, with their areas, of an island's layers in a folder. Refused H2 where one does not tile."""
+    """The pairs of rows, from 0, with their areas, of an island's layers in a folder. Refused H2 where one does not
+    tile."""
     found = overlay_areas(folder / "city.shp", folder / "parcels.shp", folder / "zones.shp")
     pairs = found.pairs - 1
     return Overlaid(pairs, proved(pairs, found.area2, island.parcels.rings, island.rows_of_zones().rings))

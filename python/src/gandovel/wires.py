@@ -75,7 +75,8 @@ class Wire:
                 self._receive()
 
     def test_heard(self) -> None:
-        """Raises `ProgramEnded` where nobody read the pipe for a moment, though somebody does again: nothing is sent then."""
+        """Raises `ProgramEnded` where nobody read the pipe for a moment, though somebody does again: nothing is sent
+        then."""
         if self._is_deaf:
             raise ProgramEnded("T2", UNANSWERED)
 

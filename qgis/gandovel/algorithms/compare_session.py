@@ -26,10 +26,10 @@ class CompareSession(Algorithm):
     HELP = (
         "<p>Asks a desk of a running session (<i>parcel_tool session .. --desk NAME</i>, where NAME.in and NAME.out "
         "are its pipes) for every parcel of the layer. <b>Compared parcels</b> has each with its <i>state</i>: "
-        "<i>same</i>, <i>moved</i> (its border differs) or <i>retired</i> (an edit took it out), and for those as <i>new</i> the "
-        "session's parcels that are there now, with their ids.</p><p>The layer has to be the one with which the "
-        "session began; name the folder that <b>Prepare</b> wrote for it, if you have it. Areas are compared exactly, in whole "
-        "millimetres. Nobody else may sit at that desk meanwhile; nothing is edited.</p>" + EXACT
+        "<i>same</i>, <i>moved</i> (its border differs) or <i>retired</i> (an edit took it out), and for those as "
+        "<i>new</i> the session's parcels that are there now, with their ids.</p><p>The layer has to be the one with "
+        "which the session began; name the folder that <b>Prepare</b> wrote for it, if you have it. Areas are compared "
+        "exactly, in whole millimetres. Nobody else may sit at that desk meanwhile; nothing is edited.</p>" + EXACT
     )
     TAGS = ("session", "register", "difference")
     STYLED = {"OUTPUT": "compared"}

@@ -33,12 +33,12 @@ class OverlayZones(Algorithm):
     HELP = (
         "<p>Which parcels lie in which zones, also where the layers do not tile.</p><p><b>Split parcels</b> are those "
         "in two zones or more, with the zones' names. <b>Parts</b> are what each has in each zone, with its area. The "
-        "<b>joined table</b> has a row for each parcel and zone that overlap, with the attributes of both. <b>Pairs</b> "
-        "are the table without attributes. <b>Faults</b> are those of parcels and zones.</p><p>That a parcel and a zone "
-        "overlap is exact; those that only touch are not told. Where both layers tile, areas are proved: twice the area in "
-        "mm², <i>area2_mm2</i>, is at most 1 off, and a parcel's areas sum to its own. Else they are measured "
-        "(<i>area_how</i>). Where a parcel overlaps no zone, or lies beyond the city, the table has a zone that is "
-        "measured at a point inside it, or none (<i>zone_how</i>).</p>" + EXACT
+        "<b>joined table</b> has a row for each parcel and zone that overlap, with the attributes of both. "
+        "<b>Pairs</b> are the table without attributes. <b>Faults</b> are those of parcels and zones.</p><p>That a "
+        "parcel and a zone overlap is exact; those that only touch are not told. Where both layers tile, areas are "
+        "proved: twice the area in mm², <i>area2_mm2</i>, is at most 1 off, and a parcel's areas sum to its own. Else "
+        "they are measured (<i>area_how</i>). Where a parcel overlaps no zone, or lies beyond the city, the table has "
+        "a zone that is measured at a point inside it, or none (<i>zone_how</i>).</p>" + EXACT
     )
     TAGS = ("zones", "intersection", "split")
     STYLED = {"FAULTS": "faults", "SPLIT": "split", "PARTS": "split_parts"}

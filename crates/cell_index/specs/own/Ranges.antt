@@ -38,7 +38,8 @@ pub record HasCell (range : CellRange) (i j : ℕ) : Type 0 where
 -- a box is kept in cell k: in the last where it is wide, else in those where it stands
 abbrev pub is_kept_in : Bounds → ℕ → Bounds → Bool
 is_kept_in area k box =
-    if k == WIDE_CELL then is_wide area box else (not (is_wide area box) && stands_in area (k / ACROSS) (k % ACROSS) box)
+    if k == WIDE_CELL then is_wide area box
+    else (not (is_wide area box) && stands_in area (k / ACROSS) (k % ACROSS) box)
 
 -- how many cells the places are, and the number of the n-th
 abbrev pub place_count : Places → ℕ
@@ -69,7 +70,12 @@ contents cells = map (λ c. c.items) cells
 
 -- what the cells show: the last of them is that of the wide boxes
 abbrev pub shown : Bounds → List Cell → Grid
-shown area cells = record { area = area; cells = take WIDE_CELL (contents cells); beside = slice_index_or (contents cells) WIDE_CELL [] }
+shown area cells =
+    record {
+      area = area;
+      cells = take WIDE_CELL (contents cells);
+      beside = slice_index_or (contents cells) WIDE_CELL [];
+    }
 
 -- each of the first n of the places has so much room
 abbrev pub HaveRoom : Places → ℕ → ℕ → List Cell → Type 0
@@ -102,11 +108,13 @@ with_entry entry c = record { items = c.items ++ entry ∷ []; capacity = c.capa
 abbrev pub passing : (IndexEntry → Bool) → Cell → Cell
 passing test c = record { items = filter test c.items; capacity = c.capacity }
 
--- cell i of a range from `first` on is the first that it has in common with the cells from `low` on, where it is one of these
+-- cell i of a range from `first` on is the first that it has in common with the cells
+-- from `low` on, where it is one of these
 abbrev pub is_first_common : (first low i : ℕ) → Bool
 is_first_common first low i = (i == first) || (i == low)
 
--- the n-th cell of the range is the first, in both directions, that it has in common with those of the box, where the box stands there
+-- the n-th cell of the range is the first, in both directions, that it has in common with those of the box, where the
+-- box stands there
 abbrev pub is_first_at : Bounds → CellRange → ℕ → Bounds → Bool
 is_first_at area range n box =
     is_first_common range.columns.first (column area box.low.x) (column_at range n)

@@ -5,8 +5,9 @@ use Rattle.shp_files.specs.FirstFault.{IsFirstFault}
 use Rattle.shp_files.specs.declared.fault.LayerFault.{LayerFault}
 use Rattle.city_layers.specs.declared.fault.Role.{Role}
 use Rattle.city_layers.specs.declared.fault.ToolFault.{ToolFault}
-use Rattle.city_layers.specs.declared.fault.ToolFault.TheVariants.{Unreadable, UnreadableIndex, Output, File, CityCount, CityRing, NoTiling}
-use Rattle.city_layers.specs.declared.fault.ToolFault.TheVariants.{ClerkCount, ClerkLine, PointLine, NoParcel, NoThread, NoWindow, NoMemory}
+use Rattle.city_layers.specs.declared.fault.ToolFault.TheVariants.{Unreadable, UnreadableIndex, Output, File, CityCount}
+use Rattle.city_layers.specs.declared.fault.ToolFault.TheVariants.{CityRing, NoTiling, ClerkCount, ClerkLine, PointLine}
+use Rattle.city_layers.specs.declared.fault.ToolFault.TheVariants.{NoParcel, NoThread, NoWindow, NoMemory}
 
 -- what is told of a layer with this role that was not read
 abbrev pub layer_fault : Role → LayerFault → ToolFault

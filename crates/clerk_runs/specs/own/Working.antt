@@ -1,5 +1,5 @@
--- What a clerk's job leaves at an office whose fabric was handed in with no entry, and what the jobs of all clerks leave together. Public
--- contracts do not speak of it.
+-- What a clerk's job leaves at an office whose fabric was handed in with no entry, and what the jobs of all clerks
+-- leave together. Public contracts do not speak of it.
 use Rattle.std.specs.Prelude.{◌≡◌, ◌⊎◌, Bool, true, false, ℕ, List, [], ◌∷◌, ◌++◌, map, All}
 use mathlib.Core.List.{IsPrefix}
 use Rattle.ring_edits.specs.declared.edit.Edit.{Edit}
@@ -32,8 +32,8 @@ module _ {A : Type 0} where
     pub kept : receipts_after ≡ receipts ++ receipt ∷ []
 
   -- it is refused: the lines have one more
-  pub record IsRefused (run : Run) (card : CardState A) (told : ℕ × Edit A) (after : CardState A) (lines lines_after : List ℕ)
-      (receipts receipts_after : List (ReceiptState A)) : Type 0 where
+  pub record IsRefused (run : Run) (card : CardState A) (told : ℕ × Edit A) (after : CardState A)
+      (lines lines_after : List ℕ) (receipts receipts_after : List (ReceiptState A)) : Type 0 where
     pub refusal : Refusal
     pub is_due : IsRefusalDue run after.met card.clerk card.made told.1 refusal ⊎ (refusal ≡ NoMemory)
     pub made : after.made ≡ card.made
@@ -41,10 +41,10 @@ module _ {A : Type 0} where
     pub line : lines_after ≡ lines ++ refused_line card.clerk told.0 refusal
     pub kept : receipts_after ≡ receipts
 
-  -- the lines tell of a clerk's edits and of the entries that were made, in each journal that begins with what the card has met; there is a
-  -- receipt for each entry, in order
-  pub record HasSaid (run : Run) (met : List (JournalEntry A)) (clerk : ℕ) (edits : List (ℕ × Edit A)) (made : List (JournalEntry A))
-      (lines : List ℕ) (receipts : List (ReceiptState A)) : Type 0 where
+  -- the lines tell of a clerk's edits and of the entries that were made, in each journal that begins with what the card
+  -- has met; there is a receipt for each entry, in order
+  pub record HasSaid (run : Run) (met : List (JournalEntry A)) (clerk : ℕ) (edits : List (ℕ × Edit A))
+      (made : List (JournalEntry A)) (lines : List ℕ) (receipts : List (ReceiptState A)) : Type 0 where
     pub are_told : (whole : List (JournalEntry A)) → IsPrefix met whole → AreTold run whole clerk [] [] edits made lines
     pub are_all : made ≡ map (λ receipt. receipt.entry) receipts
     pub tell : All Tells receipts
@@ -57,7 +57,8 @@ module _ {A : Type 0} where
     pub said : card.made ≡ [] → refused ≡ false → HasSaid run after.met card.clerk edits after.made lines receipts
 
   -- the edits of the clerks lead to this register and give these lines
-  pub record AreMadeIn (run : Run) (clerks : List (List (ℕ × Edit A))) (after : Register A) (lines : List ℕ) : Type 0 where
+  pub record AreMadeIn (run : Run) (clerks : List (List (ℕ × Edit A))) (after : Register A)
+      (lines : List ℕ) : Type 0 where
     pub is_journal : IsJournal run after.journal
     pub leads : after.now ≡ replay run.opening after.journal
     pub are_told : AreEachTold run 1 clerks after.journal lines

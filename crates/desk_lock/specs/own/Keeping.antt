@@ -42,8 +42,8 @@ module _ {A : Type 0} where
   told_by None = []
   told_by (Some told) = told
 
-  -- The fabric comes of the one that was handed in, whose journal had so many entries; behind them stand the entries of clerks that the
-  -- keeper of the cards knows, and those that were handed on are the first of these.
+  -- The fabric comes of the one that was handed in, whose journal had so many entries; behind them stand the entries of
+  -- clerks that the keeper of the cards knows, and those that were handed on are the first of these.
   pub record Keeps (office : OfficeId A) (book : Book A) (keeper : Kept (JournalEntry A))
       (handed : List (JournalEntry A)) (opened_with : ℕ) : Type 0 where
     pub counted : opened_with ≡ length office.origin.journal

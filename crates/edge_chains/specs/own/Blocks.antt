@@ -1,5 +1,5 @@
--- Groups of four neighbouring corners and blocks of groups, each with a box that has them all: what the search of the code
--- keeps. Public contracts do not speak of it.
+-- Groups of four neighbouring corners and blocks of groups, each with a box that has them all: what the search of the
+-- code keeps. Public contracts do not speak of it.
 use Rattle.std.specs.Prelude.{◌≡◌, ℕ, ◌*◌, ◌/◌, ◌<◌, ◌≤◌, List, length, slice_index, slice_index_or}
 use Rattle.geo_exact.specs.declared.corner.Corner.{Corner}
 use Rattle.geo_exact.specs.declared.bounds.Bounds.{Bounds}

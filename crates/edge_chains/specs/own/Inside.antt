@@ -1,4 +1,5 @@
--- The test of lying strictly inside an edge (`IsStrictlyInside`): what the code computes. Public contracts do not speak of it.
+-- The test of lying strictly inside an edge (`IsStrictlyInside`): what the code
+-- computes. Public contracts do not speak of it.
 use Rattle.std.specs.Prelude.{ℤ, pos, Bool, ◌&&◌, not}
 use Rattle.std.specs.Ordering.{int_eq}
 use Rattle.std.specs.Int.{int_min, int_max}

@@ -1,4 +1,5 @@
--- Corners in order across a direction and along it: where the code looks for corners on one line. Public contracts do not speak of it.
+-- Corners in order across a direction and along it: where the code looks for corners on one line. Public contracts do
+-- not speak of it.
 use Rattle.std.specs.Prelude.{◌≡◌, ◌↔◌, Bool, IfSome, IsTrue, Option, ℕ, ◌<◌, ℤ, ◌-ℤ◌, ◌*ℤ◌, List, length}
 use Rattle.std.specs.Prelude.{map, slice_index_or}
 use Rattle.std.specs.List.{All, Contains}
@@ -33,9 +34,11 @@ pub record AreRanked (across up : ℤ) (ranked : List Ranked) : Type 0 where
 -- the found corners are those of the list that lie strictly inside the edge from low's corner to high's,
 -- as far as they stand between low and high
 pub record AreBetween (low high : Ranked) (ranked : List Ranked) (found : List Corner) : Type 0 where
-  pub only : (c : Corner) → Contains found c → Contains (map (λ it. it.corner) ranked) c × IsStrictlyInside c low.corner high.corner
+  pub only : (c : Corner) → Contains found c → Contains (map (λ it. it.corner) ranked) c
+      × IsStrictlyInside c low.corner high.corner
   pub all : (k : ℕ) (d : Ranked) → k < length ranked → IsBetweenRanks low high (slice_index_or ranked k d)
-      → IsStrictlyInside (slice_index_or ranked k d).corner low.corner high.corner → Contains found (slice_index_or ranked k d).corner
+      → IsStrictlyInside (slice_index_or ranked k d).corner low.corner high.corner
+      → Contains found (slice_index_or ranked k d).corner
 
 -- a direction, and the corners that are in order across it
 pub record Ranks : Type 0 where
@@ -43,7 +46,8 @@ pub record Ranks : Type 0 where
   pub up : ℤ
   pub corners : List Corner
 
--- what is kept beside the corners has exactly them: the set and the tree, where they are made, and each direction's list
+-- what is kept beside the corners has exactly them: the set and the tree, where
+-- they are made, and each direction's list
 pub record HaveAll (corners : List Corner) (points : Option (List Corner)) (directions : List Ranks)
     (tree : Option (List Corner)) : Type 0 where
   pub points_have : IfSome points (λ kept. (c : Corner) → Contains kept c ↔ Contains corners c)

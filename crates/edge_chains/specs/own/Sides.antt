@@ -1,4 +1,5 @@
--- The two sides of a comparison: rings that are added, and rings that are taken (this product's own). Public contracts do not speak of it.
+-- The two sides of a comparison: rings that are added, and rings that are taken (this product's own). Public contracts
+-- do not speak of it.
 use Rattle.std.specs.Prelude.{ℤ, pos, neg_ℤ, Option, Some, None, if◌then◌else◌}
 use Rattle.std.specs.Ordering.{int_eq}
 use Rattle.edge_chains.specs.declared.edge_sum.Side.{Side}

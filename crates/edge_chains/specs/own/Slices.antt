@@ -8,6 +8,7 @@ AreOfSlices R size xs [] = xs ≡ []
 AreOfSlices R size xs (y ∷ ys) = R (take size xs) y × AreOfSlices R size (drop size xs) ys
 
 -- the first items have what was made of them, one by one, and the slices of those that are left have these results
-abbrev pub AreJoined : {X Y Z : Type 0} → (X → Z → Type 0) → (List X → Y → Type 0) → ℕ → List X → List Y → List Z → Type 0
+abbrev pub AreJoined : {X Y Z : Type 0} → (X → Z → Type 0) → (List X → Y → Type 0) → ℕ → List X
+    → List Y → List Z → Type 0
 AreJoined {X} made R size xs rest zs =
     (done : List X) × (left : List X) × (done ++ left ≡ xs) × AreOfSlices R size left rest × AllZip made done zs

@@ -1,4 +1,5 @@
--- An edge as a row of equal steps between whole places: where the code looks for corners inside it. Public contracts do not speak of it.
+-- An edge as a row of equal steps between whole places: where the code looks for corners inside it. Public contracts do
+-- not speak of it.
 use Rattle.std.specs.Prelude.{◌≡◌, ◌↔◌, ℕ, ◌<◌, ◌≤◌, ℤ, pos, ◌+ℤ◌, ◌-ℤ◌, ◌*ℤ◌, List}
 use Rattle.std.specs.List.{Contains}
 use Rattle.geo_exact.specs.declared.corner.Corner.{Corner}
@@ -8,7 +9,8 @@ use Rattle.geo_exact.specs.Segments.{IsStrictlyInside}
 abbrev pub AreInside : List Corner → Corner → Corner → List Corner → Type 0
 AreInside corners a b found = (c : Corner) → Contains found c ↔ (Contains corners c × IsStrictlyInside c a b)
 
--- `count` steps, each `across` and `up`, lead from a to b, and no part of a step leads to a whole place: p and q show it
+-- `count` steps, each `across` and `up`, lead from a to b, and no part of a step
+-- leads to a whole place: p and q show it
 pub record AreSteps (a b : Corner) (across up : ℤ) (count : ℕ) : Type 0 where
   pub some : 0 < count
   pub in_x : pos count *ℤ across ≡ b.x -ℤ a.x

@@ -1,5 +1,5 @@
--- A tree of boxes that lean with what they hold: where the code looks for corners inside an edge that many boxes along the axes
--- meet. Public contracts do not speak of it.
+-- A tree of boxes that lean with what they hold: where the code looks for corners inside an edge that many boxes along
+-- the axes meet. Public contracts do not speak of it.
 use Rattle.std.specs.Prelude.{◌≡◌, ℕ, ◌*◌, ◌<◌, ◌≤◌, List, length, slice_index, slice_index_or}
 use Rattle.geo_exact.specs.declared.corner.Corner.{Corner}
 use Rattle.leaning_boxes.specs.declared.leaning.LeaningBox.{LeaningBox}

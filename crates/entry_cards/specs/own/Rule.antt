@@ -48,7 +48,8 @@ module _ {E : Type 0} where
     pub whole : number_of_cards views ≡ clerks
     pub of_clerks : AllByRecursion (λ entry. IsClerk clerks entry.0) all
 
-  -- the view of who keeps; that of a stub, with its clerk's card; and the view of a seat whose card another has taken in
+  -- the view of who keeps; that of a stub, with its clerk's card; and the view of
+  -- a seat whose card another has taken in
   abbrev pub keeper_view : ℕ → List (ℕ × E) → List (Card E) → View E
   keeper_view clerks all cards = record { clerks = clerks; keeps = true; all = all; cards = cards }
 
@@ -72,8 +73,8 @@ module _ {E : Type 0} where
   card_in [] = blank_card 0
   card_in (view ∷ views) = first_card view.cards
 
-  -- a view with another's cards before its own; without its first card; with a first card that has met what the view knows; and with an
-  -- entry more, of the first card's clerk, on that card too, which has met it
+  -- a view with another's cards before its own; without its first card; with a first card that has met what the view
+  -- knows; and with an entry more, of the first card's clerk, on that card too, which has met it
   abbrev pub joined : View E → View E → View E
   joined v w = record { clerks = v.clerks; keeps = v.keeps; all = v.all; cards = w.cards ++ v.cards }
 
@@ -106,11 +107,13 @@ module _ {E : Type 0} where
     clerks = v.clerks;
     keeps = v.keeps;
     all = with_first v.all (first_card v.cards) entry;
-    cards = with_met (with_entry (first_card v.cards) entry) (with_first v.all (first_card v.cards) entry) ∷ other_cards v.cards;
+    cards = with_met (with_entry (first_card v.cards) entry) (with_first v.all (first_card v.cards) entry)
+        ∷ other_cards v.cards;
   }
 
-  -- what who keeps may know of the cards in its view: each has all entries of its clerk, what it met begins all entries, and it is the only
-  -- one of its clerk; where they are as many as the clerks, there is one of each; and all entries are of clerks
+  -- what who keeps may know of the cards in its view: each has all entries of its clerk, what it met begins all
+  -- entries, and it is the only one of its clerk; where they are as many as the clerks, there is one of each; and all
+  -- entries are of clerks
   pub record AreKnown (clerks : ℕ) (all : List (ℕ × E)) (cards : List (Card E)) : Type 0 where
     pub own : AllByRecursion (HasAll all) cards
     pub met : AllByRecursion (HasMet all) cards
@@ -121,7 +124,8 @@ module _ {E : Type 0} where
   abbrev pub KnowsCards : View E → Type 0
   KnowsCards v = v.keeps ≡ true → AreKnown v.clerks v.all v.cards
 
-  -- what a keeper has: the table's name and number of clerks, all entries, and the cards of the clerks that were not dealt
+  -- what a keeper has: the table's name and number of clerks, all entries, and the
+  -- cards of the clerks that were not dealt
   pub record Keeps (cards : Tied) (name : TableId) (me : Me (Unit {0}) (View E)) (clerks dealt : ℕ) : Type 0 where
     pub clerks_are : cards.clerks ≡ clerks
     pub own : name ≡ cards.name
@@ -136,4 +140,5 @@ module _ {E : Type 0} where
     pub clerks_are : cards.clerks ≡ clerks
     pub own : name ≡ cards.name
     pub at_most : dealt ≤ clerks
-    pub mark : me ≡ (keeper_view clerks me.0.all (taken_in clerks dealt me.0.cards ++ blank_cards dealt (clerks - dealt)), [])
+    pub mark : me
+        ≡ (keeper_view clerks me.0.all (taken_in clerks dealt me.0.cards ++ blank_cards dealt (clerks - dealt)), [])

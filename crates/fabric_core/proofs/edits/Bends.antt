@@ -1,21 +1,27 @@
--- The first of the rows that bends at a corner: only rows with the corner do, and these are looked at by ascending id.
+-- The first of the rows that bends at a corner: only rows with the corner do, and these are looked at by ascending id. Where none does,
+-- nor does the city's refined ring.
 use Rattle.std.proofs.Common.{◌≡◌, ⊎_elim, refl, sym, ◌∙◌, ap, subst, arith, ℕ, ◌<◌, ◌≤◌, List, [], ◌∷◌}
-use Rattle.std.proofs.Common.{◌++◌, length, take, get_or}
+use Rattle.std.proofs.Common.{◌++◌, length, take, get_or, ℤ, pos, ◌+ℤ◌}
 use Rattle.std.specs.List.{AllByRecursion, Contains}
 use Rattle.std.specs.List.Sorted.{IsStrictlyIncreasing}
 use Rattle.std.proofs.lemmas.Bool.{cases_lt}
+use Rattle.std.proofs.lemmas.Int.{ints}
 use Rattle.std.proofs.lemmas.List.{length-take, get_or-take, get_or_default}
 use Rattle.std.proofs.lemmas.List.Elements.{Contains-append_left, Contains-append_right, Contains-push_cases}
 use Rattle.std.proofs.lemmas.List.Kept.{AllPairs-from_increasing}
 use Rattle.geo_exact.specs.declared.corner.Corner.{Corner}
 use Rattle.geo_exact.specs.Layers.{NumberedRing, numbered}
+use Rattle.geo_exact.specs.Winding.{winding}
 use Rattle.edge_chains.proofs.nodings.NodedEdges.{none_in_nil, Contains-here, all_from_contains}
 use Rattle.ring_edits.specs.Edits.{BendsAt, has_corner}
+use Rattle.ring_edits.proofs.BentAlike.{bends_alike}
 use Rattle.ring_edits.proofs.Straight.{bends_has}
 use Rattle.fabric_core.specs.EditResults.{rows_at_corner}
-use Rattle.fabric_core.specs.Refusals.{IsFirstBent}
+use Rattle.fabric_core.specs.Journal.{State}
+use Rattle.fabric_core.specs.Refusals.{IsCityBent, IsFirstBent}
 use Rattle.fabric_core.specs.Rows.{numbers}
-use Rattle.fabric_core.specs.own.Balanced.{Ascend}
+use Rattle.fabric_core.specs.Tiling.{corner_lists}
+use Rattle.fabric_core.specs.own.Balanced.{Ascend, IsBalanced}
 use Rattle.fabric_core.proofs.rows.RowLists.{Ascend-filter, Contains-from_kept, Contains-from_mapped, Contains-kept, has_number}
 use Rattle.fabric_core.proofs.rows.RowLists.{rising, same_row, taken_out}
 use Rattle.fabric_core.proofs.tilings.OneParcel.{of_each}
@@ -109,3 +115,17 @@ module _ (at : Corner) (rows : List NumberedRing) where
       let w = Contains-from_mapped (λ (row : NumberedRing). row.number) (rows_at_corner at rows) id
       (subst (λ ns. Contains ns id) named there) in
       (w.0, (Contains-from_kept (λ (row : NumberedRing). has_corner at row.corners) rows w.0 w.1).0, w.2)
+
+-- ---- the city's refined ring, which is simple, and which the rows go alike with
+straight_lists : (at : Corner) (rows : List NumberedRing) → AllByRecursion (λ row. ¬ BendsAt at row.corners) rows
+    → AllByRecursion (λ ring. ¬ BendsAt at ring) (corner_lists rows)
+straight_lists at [] h = tt
+straight_lists at (row ∷ rows) h = (h.0, straight_lists at rows h.1)
+
+pub never_city_bent : (state : State) → IsBalanced state → (at : Corner) → ¬ IsCityBent state at
+never_city_bent state h at bent =
+    bends_alike at (corner_lists state.rows) state.refined h.simple_city (λ p. h.alike.windings p ∙ alone (winding p state.refined))
+    (straight_lists at state.rows bent.0) bent.1
+  where
+    alone : (z : ℤ) → z +ℤ pos 0 ≡ z
+    alone z = omega (arith, ints)

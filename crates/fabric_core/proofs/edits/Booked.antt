@@ -1,24 +1,29 @@
 -- What a fabric keeps when an edit is drafted and made: refusals are those of its journal, and an entry more is lawful.
-use Rattle.std.proofs.Common.{◌≡◌, inl, inr, ⊎_elim, refl, sym, ◌∙◌, ap, subst, arith, ℕ, ◌+◌, ◌<◌, ◌≤◌, List}
+use Rattle.std.proofs.Common.{◌≡◌, ◌⊎◌, inl, inr, ⊎_elim, refl, sym, ◌∙◌, ap, subst, arith, ℕ, ◌+◌, ◌<◌, ◌≤◌, List}
+use Rattle.std.proofs.Common.{Result, Ok, Err}
+use Rattle.std.specs.Result.{IfErr, IsErrOf}
 use Rattle.std.proofs.Common.{[], ◌∷◌, ◌++◌, length, Option, Some, None, MatchOption}
 use Rattle.std.proofs.lemmas.List.{length-append}
+use Rattle.geo_exact.specs.declared.corner.Corner.{Corner}
 use Rattle.geo_exact.specs.Layers.{NumberedRing, corner_count}
 use Rattle.ring_edits.specs.declared.edit.Edit.{Edit}
 use Rattle.ring_edits.specs.declared.edit.Edit.TheVariants.{Split, Merge, Move, Insert, Straighten}
 use Rattle.geo_exact.specs.declared.limits.TheConstants.{RING_CORNERS}
 use Rattle.fabric_core.specs.declared.journal.TheConstants.{JOURNAL_ENTRIES}
 use Rattle.fabric_core.specs.declared.refusal.Refusal.{Refusal}
-use Rattle.fabric_core.specs.declared.refusal.Refusal.TheVariants.{Unknown, Retired}
+use Rattle.fabric_core.specs.declared.refusal.Refusal.TheVariants.{JournalFull, NoMemory, NoSuchCorner, NotFlat, Unknown, Retired}
 use Rattle.fabric_core.specs.Journal.{State, JournalEntry, after_entry, next_after, replay}
 use Rattle.fabric_core.specs.EditResults.{IsChange, IsEntryOf}
-use Rattle.fabric_core.specs.Refusals.{IsRefusal, IsIdRefusal, IsFirstAbsent, AreParcels, NeedsNoMemory, named_ids}
-use Rattle.fabric_core.specs.own.Balanced.{HasRisingIds}
+use Rattle.fabric_core.specs.Refusals.{IsRefusal, IsIdRefusal, IsFirstAbsent, IsFirstBent, AreParcels, NeedsNoMemory, named_ids}
+use Rattle.fabric_core.specs.own.Balanced.{HasRisingIds, IsBalanced}
 use Rattle.fabric_core.specs.own.Books.{IsBook}
 use Rattle.fabric_core.specs.own.Changes.{AsksMemory, IsDraftRefusal, IsMade, state_of}
 use Rattle.fabric_core.specs.own.Kept.{Kept, gone_by}
+use Rattle.fabric_core.proofs.edits.Bends.{never_city_bent}
 use Rattle.fabric_core.proofs.edits.LawfulJournals.{balanced_now, one_reason, no_reason, no_early_reason}
 use Rattle.fabric_core.proofs.edits.OneRefusal.{one_change}
 use Rattle.fabric_core.proofs.edits.Drafts.{all_here}
+use Rattle.fabric_core.proofs.loads.FullyNoded.{no_error, same_error}
 use Rattle.fabric_core.proofs.edits.Replays.{lawful_push, replay_push, next_after_renewal}
 use Rattle.fabric_core.proofs.edits.RingChanges.{renewal_of}
 use Rattle.fabric_core.specs.declared.ring_change.RingChange.TheVariants.{PutIn, TakeOut}
@@ -62,6 +67,39 @@ module _ {A : Type 0} (opening : State) (journal : List (JournalEntry A)) (kept 
   for_that_alone edit r s h k =
       one_reason opening journal book.balanced book.lawful edit r s (subst (λ state. IsRefusal state journal edit r) (sym book.replays) h)
       (subst (λ state. IsRefusal state journal edit s) (sym book.replays) k)
+
+  -- where it is refused for a bend, the refusal tells the first row that bends
+  bent_row : (at : Corner) (id : ℕ) → IsRefusal (state_of kept) journal (Straighten at) (NotFlat id) → IsFirstBent kept.rows at id
+  bent_row at id (inl h) = absurd (other_reason h.0)
+    where
+      other_reason : NotFlat id ≡ JournalFull → ⊥
+      other_reason e = cc
+  bent_row at id (inr (room, inl h)) = absurd h
+  bent_row at id (inr (room, inr (here, inl (inl h)))) = absurd (other_reason h.0)
+    where
+      other_reason : NotFlat id ≡ NoSuchCorner → ⊥
+      other_reason e = cc
+  bent_row at id (inr (room, inr (here, inl (inr (some, inl (other, same, first)))))) =
+      subst (IsFirstBent kept.rows at) (one_id same) first
+    where
+      one_id : NotFlat id ≡ NotFlat other → other ≡ id
+      one_id e = cc
+  bent_row at id (inr (room, inr (here, inl (inr (some, inr (same, bent)))))) =
+      absurd (never_city_bent (state_of kept)
+      (subst IsBalanced book.replays (balanced_now opening journal book.balanced book.lawful)) at bent)
+  bent_row at id (inr (room, inr (here, inr (out, rows, change, h)))) = absurd h
+
+  pub bent_told : {T : Type 0} (r : Result T Refusal) (edit : Edit A) (at : Corner) (id : ℕ)
+      → IfErr r (λ refusal. IsRefusal (state_of kept) journal edit refusal ⊎ (refusal ≡ NoMemory))
+      → edit ≡ Straighten at → IsErrOf r (NotFlat id) → IsFirstBent kept.rows at id
+  bent_told (Ok x) edit at id h e is = absurd (no_error (Ok x) x (NotFlat id) refl is)
+  bent_told (Err f) edit at id (inl h) e is =
+      bent_row at id (subst (λ z. IsRefusal (state_of kept) journal z (NotFlat id)) e
+      (subst (IsRefusal (state_of kept) journal edit) (same_error (Err f) f (NotFlat id) refl is) h))
+  bent_told (Err f) edit at id (inr none) e is = absurd (other_reason (sym (same_error (Err f) f (NotFlat id) refl is) ∙ none))
+    where
+      other_reason : NotFlat id ≡ NoMemory → ⊥
+      other_reason k = cc
 
   -- an edit with an entry is not refused
   pub for_nothing : (entry : JournalEntry A) (r : Refusal) → length journal < JOURNAL_ENTRIES

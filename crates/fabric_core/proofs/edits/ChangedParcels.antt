@@ -19,6 +19,7 @@ use Rattle.fabric_core.proofs.edits.Exchanges.{has_id}
 use Rattle.parcel_table.proofs.Tables.{ids_of_rows}
 use Rattle.cell_index.proofs.Members.{mapped}
 use Rattle.ring_core.specs.declared.shape.Shape.{Shape}
+use Rattle.ring_core.specs.Simple.{IsSimpleRing}
 use Rattle.ring_edits.specs.Edits.{CoversAlike}
 use Rattle.parcel_table.specs.declared.parcels.Parcel.{Parcel}
 use Rattle.parcel_table.specs.Table.{HasId, with_shape, ids_of, rows_of_keyed, entries_of}
@@ -193,7 +194,8 @@ module _ {A : Type 0} (change : RingChange) where
   -- the ids beside the keys stay
   pub ids_by_key_changed : (parcels after : List (ℕ × Parcel A)) → AreChanged change parcels after → ids_by_key after ≡ ids_by_key parcels
   ids_by_key_changed parcels after changed = same_ids_by_key after parcels
-      (sym (ids_of_rows after) ∙ ap numbers changed.rows ∙ numbers_kept change (rows_of_keyed parcels) ∙ ids_of_rows parcels) changed.entries
+      (sym (ids_of_rows after) ∙ ap numbers changed.rows ∙ numbers_kept change (rows_of_keyed parcels)
+      ∙ ids_of_rows parcels) changed.entries
 
   pub change_all : (parcels : List (ℕ × Parcel A)) (ids : List ℕ) (shapes : List (Shape A)) → Rise parcels
       → AllByRecursion (λ row. KeepsGround change row.corners) (rows_of_keyed parcels)
@@ -275,9 +277,10 @@ module _ {A : Type 0} where
   -- what is kept
   pub changed_kept : (change : RingChange) (parcels after : List (ℕ × Parcel A)) (city refined refined_after : List Corner) (index : Grid)
       → IsKept parcels city refined index → AreChanged change parcels after → CoversAlike refined refined_after
+      → IsSimpleRing refined_after
       → MayBeKept (map (changed_row change) (rows_of_keyed parcels)) refined_after → IsStrictlyIncreasing (ids_of after)
       → IsKept after city refined_after index
-  changed_kept change parcels after city refined refined_after index kept changed covers may rises =
+  changed_kept change parcels after city refined refined_after index kept changed covers simple may rises =
       let alike : GoAlike (corner_lists (rows_of_keyed after)) refined_after =
       subst (λ rows. GoAlike (corner_lists rows) refined_after) (sym changed.rows) may.alike in
       let ground : CoversAlike city refined_after = record {
@@ -291,6 +294,7 @@ module _ {A : Type 0} where
         ids_rise = subst IsStrictlyIncreasing (sym (ids_of_rows after)) rises;
         within = subst AreWithinLimits (sym changed.rows) may.within;
         alike = alike;
+        simple_city = simple;
         wound_once = kept.wound_once;
         ground = ground;
         area = kept.area;

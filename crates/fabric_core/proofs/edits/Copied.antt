@@ -20,6 +20,7 @@ copied parcels copies city refined index rows entries h = record {
   ids_rise = subst (λ rows. IsStrictlyIncreasing (numbers rows)) (sym rows) h.ids_rise;
   within = subst AreWithinLimits (sym rows) h.within;
   alike = subst (λ rows. GoAlike (corner_lists rows) refined) (sym rows) h.alike;
+  simple_city = h.simple_city;
   wound_once = h.wound_once;
   ground = h.ground;
   area = h.area;

@@ -13,6 +13,7 @@ use Rattle.ring_core.specs.Simple.{IsSimpleRing}
 use Rattle.ring_edits.specs.declared.edit.Edit.{Edit}
 use Rattle.ring_edits.specs.declared.edit.Edit.TheVariants.{Split, Merge, Move, Insert, Straighten}
 use Rattle.ring_edits.proofs.EditNets.{split_nets, merge_nets, move_nets}
+use Rattle.ring_edits.proofs.StaySimple.{put_simple, without_simple}
 use Rattle.fabric_core.specs.declared.ring_change.RingChange.{RingChange}
 use Rattle.fabric_core.specs.declared.ring_change.RingChange.TheVariants.{PutIn, TakeOut}
 use Rattle.fabric_core.specs.own.Balanced.{Ascend, HasRisingIds, IsBalanced}
@@ -148,12 +149,22 @@ module _ (measure : Edge → ℤ) (adds : AddsUp measure) where
     equal_sums (Straighten at) h same = renewed_sums state out rows ids (TakeOut at) (renewal_of A state (TakeOut at) out rows h) same
 
 -- ---- states with simple rings that go alike with the city's
+-- the city's refined ring stays simple
+city_after : {A : Type 0} (state : State) (edit : Edit A) (out : List ℕ) (rows : List NumberedRing) → IsChange state edit out rows
+    → IsSimpleRing state.refined → IsSimpleRing (refined_by edit state.refined)
+city_after state (Split id path) out rows h simple = simple
+city_after state (Merge a b) out rows h simple = simple
+city_after state (Move a b path) out rows h simple = simple
+city_after state (Insert from to at) out rows h simple = put_simple from to at state.refined h.is_between simple
+city_after state (Straighten at) out rows h simple = without_simple at state.refined h.city_straight simple
+
 -- entries lead from one to the next
 pub balanced_after : {A : Type 0} (state : State) (entry : JournalEntry A) → IsBalanced state → IsEntryOf state entry
     → IsBalanced (after_entry state entry)
 balanced_after state entry h k = record {
   ids = rising_after state entry h.ids k.is_change;
   simple = all_after (λ row. IsSimpleRing row.corners) state entry.edit entry.out entry.rows h.ids k.is_change h.simple k.are_simple;
+  simple_city = city_after state entry.edit entry.out entry.rows k.is_change h.simple_city;
   alike = record {
     windings = λ p.
         equal_sums (crossing_of p) (crossings_add p) state entry.out entry.rows h.simple h.ids entry.edit k.is_change (h.alike.windings p);

@@ -161,6 +161,7 @@ module _ {A : Type 0} where
     ids_rise = subst IsStrictlyIncreasing (sym (ids_of_rows after)) rises;
     within = within;
     alike = alike;
+    simple_city = kept.simple_city;
     wound_once = kept.wound_once;
     ground = kept.ground;
     area = subst (λ box. IsLeastBox box city) (sym same) kept.area;

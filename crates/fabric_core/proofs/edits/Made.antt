@@ -64,7 +64,8 @@ test_fates true by n old none = (
 test_fates false by n old none = (λ e. inl e, λ h. ⊎_elim (λ e. e) (λ k. absurd (false≢true k.0)) h)
 
 -- the city's refined ring after the edit of a change
-refined_by_change : (A : Type 0) (change : RingChange) (ring : List Corner) → refined_by (edit_of {A = A} change) ring ≡ changed_city change ring
+refined_by_change : (A : Type 0) (change : RingChange) (ring : List Corner)
+    → refined_by (edit_of {A = A} change) ring ≡ changed_city change ring
 refined_by_change A (PutIn from to at) ring = refl
 refined_by_change A (TakeOut at) ring = refl
 

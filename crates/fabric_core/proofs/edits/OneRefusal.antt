@@ -266,9 +266,9 @@ module _ (state : State) (simple : AreSimple state.rows) (up : Ascend state.rows
       good_or_bad w.0 w.1 path w.4
       (subst (λ ring. IsBadBorder ring w.1 path) (ring_of a w.0 h.1.0 w.2 h.1.2)
       (subst (λ ring. IsBadBorder h.1.0 ring path) (ring_of b w.1 h.1.1 w.3 h.1.3) h.1.4))
-  asks_or_own (Insert from to at) r w (inl h) n = subst NeedsNoMemory h.0 n
+  asks_or_own (Insert from to at) r w (inl h) n = ⊎_elim (λ e. w.0 e) (λ e. w.1 e) h.1
   asks_or_own (Insert from to at) r w (inr h) n = subst NeedsNoMemory h.0 n
-  asks_or_own (Straighten at) r w (inl h) n = subst NeedsNoMemory h.0 n
+  asks_or_own (Straighten at) r w (inl h) n = w h.1
   asks_or_own (Straighten at) r w (inr h) n = ⊎_elim (λ k. subst NeedsNoMemory k.1 n) (λ k. subst NeedsNoMemory k.0 n) h.1
 
   -- memory is asked for each edit that has a result
@@ -278,8 +278,8 @@ module _ (state : State) (simple : AreSimple state.rows) (up : Ascend state.rows
   change_asks (Merge a b) out rows k = (k.ring_a, k.ring_b, k.has_a, k.has_b, merged_run k.ring_a k.ring_b k.ring k.is_merge)
   change_asks (Move a b path) out rows k =
       (k.ring_a, k.ring_b, k.has_a, k.has_b, moved_path k.ring_a k.ring_b path k.new_a k.new_b k.is_move)
-  change_asks (Insert from to at) out rows k = tt
-  change_asks (Straighten at) out rows k = tt
+  change_asks (Insert from to at) out rows k = (k.two_ends, k.some)
+  change_asks (Straighten at) out rows k = k.some
 
 -- the ids of an edit for which memory is asked are parcels'
 asks_here : {A : Type 0} (state : State) (edit : Edit A) → AsksMemory state edit → AreParcels state.rows (named_ids edit)

@@ -1,9 +1,9 @@
 -- The rows that an edit changes: each is a candidate of one of its corners, and they are changed one after the other.
 use Rattle.std.proofs.Common.{◌≡◌, ⊎_elim, refl, sym, ◌∙◌, ap, subst, arith, Bool, true}
-use Rattle.std.proofs.Common.{false}
+use Rattle.std.proofs.Common.{false, cond, ◌||◌, ◌≢◌}
 use Rattle.std.proofs.Common.{ℕ, ◌<◌, ◌≤◌, ℤ, List, [], ◌∷◌, ◌++◌, length, map, take, get_or}
 use Rattle.std.proofs.lemmas.Int.{ints, clamps}
-use Rattle.std.specs.List.{All, AllByRecursion, Contains}
+use Rattle.std.specs.List.{All, AllByRecursion, Contains, filter, list_any}
 use Rattle.std.specs.List.Sorted.{IsStrictlyIncreasing}
 use Rattle.std.proofs.lemmas.Bool.{cases_Bool, false_from_ne_true, false≢true}
 use Rattle.std.proofs.lemmas.List.{map-append, length-take, get_or-take, get_or_default}
@@ -200,3 +200,25 @@ changes_not b off = false_from_ne_true b off
 
 pub changes_it : (b : Bool) → ¬ (¬ (b ≡ true)) → b ≡ true
 changes_it b h = ⊎_elim (λ t. t) (λ f. absurd (h (λ t. false≢true (sym f ∙ t)))) (cases_Bool b)
+
+-- ---- whether any row is changed
+module _ {X : Type 0} (p : X → Bool) where
+  -- where a test finds nothing, nothing is kept
+  pub none_kept : (xs : List X) → list_any p xs ≡ false → filter p xs ≡ []
+  none_kept [] h = refl
+  none_kept (x ∷ xs) h = by_test (p x) (none_kept xs) h
+    where
+      by_test : (b : Bool) → (list_any p xs ≡ false → filter p xs ≡ []) → (b || list_any p xs) ≡ false
+          → cond b (x ∷ filter p xs) (filter p xs) ≡ []
+      by_test true rest h = absurd (false≢true (sym h))
+      by_test false rest h = rest h
+
+  -- and where it finds something, something is
+  pub some_kept : (xs : List X) → list_any p xs ≡ true → filter p xs ≢ []
+  some_kept [] h = absurd (false≢true h)
+  some_kept (x ∷ xs) h = by_test (p x) (some_kept xs) h
+    where
+      by_test : (b : Bool) → (list_any p xs ≡ true → filter p xs ≢ []) → (b || list_any p xs) ≡ true
+          → cond b (x ∷ filter p xs) (filter p xs) ≢ []
+      by_test true rest h = λ e. absurd (cc)
+      by_test false rest h = rest h

@@ -11,9 +11,11 @@ use Rattle.geo_exact.specs.Rings.{Edge, path, begun_at_least}
 use Rattle.geo_exact.proofs.corners_and_turns.CornerOrder.{same_from_test}
 use Rattle.edge_chains.proofs.nodings.NodedEdges.{Contains-here, Contains-there}
 use Rattle.geo_exact.proofs.rings.Begun.{least_within, sum_over-begun}
+use Rattle.ring_core.specs.Simple.{IsSimpleRing}
 use Rattle.ring_edits.specs.Edits.{CoversAlike, has_corner, has_edge_between, joins, put_between}
 use Rattle.ring_edits.proofs.PutEdges.{put_none, sum_over-put}
 use Rattle.ring_edits.proofs.PutGround.{put_covers, with_corner_box}
+use Rattle.ring_edits.proofs.StaySimple.{put_simple, without_simple}
 use Rattle.ring_edits.proofs.Straight.{sum_over-straightened, sum_over-without, straightened_box, without_covers, without_none}
 use Rattle.fabric_core.specs.declared.ring_change.RingChange.{RingChange}
 use Rattle.fabric_core.specs.declared.ring_change.RingChange.TheVariants.{PutIn, TakeOut}
@@ -82,6 +84,11 @@ city_measure measure adds (TakeOut at) ring h = sum_over-without measure at ring
 pub city_covers : (change : RingChange) (ring : List Corner) → KeepsGround change ring → CoversAlike ring (changed_city change ring)
 city_covers (PutIn from to at) ring h = put_covers from to at ring h
 city_covers (TakeOut at) ring h = without_covers at ring h
+
+pub city_simple : (change : RingChange) (ring : List Corner) → KeepsGround change ring → IsSimpleRing ring
+    → IsSimpleRing (changed_city change ring)
+city_simple (PutIn from to at) ring h simple = put_simple from to at ring h simple
+city_simple (TakeOut at) ring h simple = without_simple at ring h simple
 
 pub box_kept : (change : RingChange) (box : Bounds) (ring : List Corner) → KeepsGround change ring → IsLeastBox box ring
     → IsLeastBox box (changed_ring change ring)

@@ -107,17 +107,17 @@ told_gap records city rows refined a b n h fault =
     (subst (λ r. IsUntiledBeside fault.rows city r a b) same.1
     (gap_beside records city fault.rows fault.refined a b n fault.are_refined fault.is_first.2))
 
-not_both : {T E : Type 0} (r : Result T E) (x : T) (e : E) → r ≡ Ok x → r ≡ Err e → ⊥
-not_both r x e h k = cc
+pub no_error : {T E : Type 0} (r : Result T E) (x : T) (e : E) → r ≡ Ok x → r ≡ Err e → ⊥
+no_error r x e h k = cc
 
-same_error : {T E : Type 0} (r : Result T E) (e f : E) → r ≡ Err e → r ≡ Err f → e ≡ f
+pub same_error : {T E : Type 0} (r : Result T E) (e f : E) → r ≡ Err e → r ≡ Err f → e ≡ f
 same_error r e f h k = cc
 
 pub untiled_where_told : {T : Type 0} (r : Result T LoadFault) (records : List NumberedRing) (city : List Corner)
     → IfErr r (λ f. IsLoadFault records city f ⊎ (f ≡ NoMemory)) → (rows : List NumberedRing) (refined : List Corner)
     (a b : Corner) (n : ℤ)
     → AreRefined records city rows refined → IsErrOf r (Gap a b n) → IsUntiledBeside rows city refined a b
-untiled_where_told (Ok x) records city told rows refined a b n h e = absurd (not_both (Ok x) x (Gap a b n) refl e)
+untiled_where_told (Ok x) records city told rows refined a b n h e = absurd (no_error (Ok x) x (Gap a b n) refl e)
 untiled_where_told (Err f) records city (inl k) rows refined a b n h e =
     told_gap records city rows refined a b n h (subst (IsLoadFault records city) (same_error (Err f) f (Gap a b n) refl e) k)
 untiled_where_told (Err f) records city (inr m) rows refined a b n h e =

@@ -11,7 +11,9 @@ use Rattle.fabric_core.specs.declared.all_faults.Asked.{Asked}
 use Rattle.fabric_core.specs.declared.all_faults.LoadRefusal.{LoadRefusal}
 use Rattle.fabric_core.specs.declared.layer.LoadFault.{LoadFault}
 use Rattle.fabric_core.specs.declared.layer.LoadFault.TheVariants.{TooMany, Ring, Gap, NoMemory}
-use Rattle.fabric_core.specs.Limits.{IsFirstTooMany}
+use Rattle.std.specs.List.Sorted.{IsStrictlyIncreasing}
+use Rattle.fabric_core.specs.Rows.{numbers}
+use Rattle.fabric_core.specs.Limits.{AreWithinLimits, IsFirstTooMany}
 use Rattle.fabric_core.specs.Faults.{IsFirstFaulty, IsFirstFault, IsLoadFault, AreAllFaults, AreAsked, IsLoadRefusal, IsOutOfMemory}
 use Rattle.fabric_core.specs.own.Checks.{IsTold, IsToldOfRings, IsToldOfNets}
 use Rattle.fabric_core.proofs.loads.OneLoadFault.{AreFaultless, faultless, one_load_fault}
@@ -30,27 +32,51 @@ tells_too_many asked rows refined n refusal first none h = record {
     by_asked Asked.First = none
     by_asked Asked.All = subst (λ f. AreAllFaults rows refined f refusal.all) (sym first) none
 
+-- what is asked for is one of both
+pub asked_apart : Asked.First ≡ Asked.All → ⊥
+asked_apart e = cc
+
 pub tells_first_ring : {A : Type 0} (asked : Asked) (rows : List NumberedRing) (n : ℕ) (f : RingFault) (refusal : LoadRefusal A)
     → asked ≡ Asked.First → refusal.first ≡ Ring n f → refusal.all ≡ None → IsFirstFaulty rows n f → IsToldOfRings asked rows refusal
-tells_first_ring asked rows n f refusal e first none h = λ refined within rise. record {
-  is_first = subst (IsFirstFault rows refined) (sym first) (within, h);
-  are_asked = subst (λ a. AreAsked a rows refined refusal.first refusal.all) (sym e) none;
+tells_first_ring asked rows n f refusal e first none h = record {
+  number = n;
+  fault = f;
+  is_first = first;
+  is_faulty = h;
+  is_alone = λ one. none;
+  has_all = λ all. absurd (asked_apart (sym e ∙ all));
 }
 
 pub tells_all_rings : {A : Type 0} (asked : Asked) (rows : List NumberedRing) (n : ℕ) (f : RingFault) (rest : List (ℕ × RingFault))
     (faults : Vec (ℕ × RingFault) A) → (asked ≡ Asked.First → faults.items ≡ []) → AreToldRings rows faults.items
     → faults.items ≡ (n, f) ∷ rest → IsToldOfRings asked rows (record { first = Ring n f; all = Some (Rings faults) })
-tells_all_rings Asked.First rows n f rest faults none h e = λ refined within rise. absurd (never (sym (none refl) ∙ e))
+tells_all_rings asked rows n f rest faults none h e = record {
+  number = n;
+  fault = f;
+  is_first = refl;
+  is_faulty = first_faulty rows faults.items (n, f) rest h e;
+  is_alone = λ one. absurd (never (sym (none one) ∙ e));
+  has_all = λ all rise refined. (faults, rest, refl, e, are_ring_faults rows faults.items h rise);
+}
   where
     never : [] ≡ (n, f) ∷ rest → ⊥
     never k = cc
-tells_all_rings Asked.All rows n f rest faults none h e = λ refined within rise. record {
-  is_first = (within, first_faulty rows faults.items (n, f) rest h e);
-  are_asked = (faults, rest, refl, e, are_ring_faults rows faults.items h rise);
-}
 
-pub tells_first_gap : {A : Type 0} (asked : Asked) (rings : List (List Corner)) (refined : List Corner) (sum : Counts) (a b : Corner) (n : ℤ)
-    (refusal : LoadRefusal A) → asked ≡ Asked.First → refusal.first ≡ Gap a b n → refusal.all ≡ None → AreNetOf sum rings (refined ∷ [])
+-- within the limits, whatever the city, it is the refusal of the rows
+pub told_of_rings : {A : Type 0} (asked : Asked) (rows : List NumberedRing) (refined : List Corner) (refusal : LoadRefusal A)
+    → IsToldOfRings asked rows refusal → AreWithinLimits rows → IsStrictlyIncreasing (numbers rows) → IsTold asked rows refined refusal
+told_of_rings asked rows refined refusal h within rise = record {
+  is_first = subst (IsFirstFault rows refined) (sym h.is_first) (within, h.is_faulty);
+  are_asked = by_asked asked h;
+}
+  where
+    by_asked : (asked : Asked) → IsToldOfRings asked rows refusal → AreAsked asked rows refined refusal.first refusal.all
+    by_asked Asked.First k = k.is_alone refl
+    by_asked Asked.All k = k.has_all refl rise refined
+
+pub tells_first_gap : {A : Type 0} (asked : Asked) (rings : List (List Corner)) (refined : List Corner) (sum : Counts)
+    (a b : Corner) (n : ℤ) (refusal : LoadRefusal A) → asked ≡ Asked.First → refusal.first ≡ Gap a b n → refusal.all ≡ None
+    → AreNetOf sum rings (refined ∷ [])
     → IsFirstUnbalanced sum a b n → IsToldOfNets asked rings refined refusal
 tells_first_gap asked rings refined sum a b n refusal e first none net h = λ rows same within simple. record {
   is_first = subst (IsFirstFault rows refined) (sym first) (within, simple, first_counted sum rings refined a b n net h rows same);

@@ -5,6 +5,7 @@ use Rattle.std.specs.List.Sorted.{IsStrictlyIncreasing}
 use Rattle.std.proofs.lemmas.List.{length-map}
 use Rattle.geo_exact.specs.declared.corner.Corner.{Corner}
 use Rattle.ring_core.specs.declared.ring.Ring.{Ring}
+use Rattle.ring_edits.proofs.StaySimple.{noded_simple}
 use Rattle.parcel_table.specs.declared.parcels.Parcel.{Parcel}
 use Rattle.fabric_core.specs.Tiling.{corner_lists, IsTiling}
 use Rattle.geo_exact.specs.Layers.{NumberedRing, NumbersRise}
@@ -78,6 +79,7 @@ kept number_list rings parcels city refined area index same h least e indexed =
       ids_rise = subst IsStrictlyIncreasing (sym (ap numbers same ∙ numbers_of_rows number_list rings h.same_length)) h.rise;
       within = all.within;
       alike = alike;
+      simple_city = noded_simple city h.is_city.corners refined h.is_city.simple h.is_city.is_noded;
       wound_once = h.is_city.wound_once;
       ground = ground;
       area = subst (λ box. IsLeastBox box city) (sym e) least;

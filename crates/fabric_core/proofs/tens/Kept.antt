@@ -15,11 +15,13 @@ use Rattle.parcel_table.specs.declared.parcels.Parcel.{Parcel}
 use Rattle.parcel_table.specs.Table.{HasId, ids_of, rows_of_keyed, entries_of}
 use Rattle.parcel_table.proofs.Tables.{ids_of_rows, entries_of-push}
 use Rattle.ring_core.specs.declared.shape.Shape.{Shape}
+use Rattle.ring_core.specs.Simple.{IsSimpleRing}
 use Rattle.ring_edits.specs.Edits.{CoversAlike}
 use Rattle.edge_chains.proofs.nodings.NodedEdges.{Contains-here, Contains-there}
 use Rattle.scaled_rings.specs.Tenfold.{AreTenTimes}
 use Rattle.scaled_rings.proofs.Scaling.{ten, AreNear, tens_of}
 use Rattle.scaled_rings.proofs.Points.{tenth, winding_ten, on_ring_ten, area_ten}
+use Rattle.scaled_rings.proofs.Simple.{simple_ten}
 use Rattle.fabric_core.specs.Rows.{numbers}
 use Rattle.fabric_core.specs.Tiling.{corner_lists, IsWoundAtMostOnce}
 use Rattle.fabric_core.specs.Limits.{AreWithinLimits}
@@ -195,6 +197,7 @@ module _ {A : Type 0} where
         ids_rise = subst IsStrictlyIncreasing (sym (ap numbers rows ∙ numbers_ten (rows_of_keyed parcels))) kept.ids_rise;
         within = subst AreWithinLimits (sym rows) (within_ten (rows_of_keyed parcels) kept.within);
         alike = alike;
+        simple_city = subst IsSimpleRing (sym is_refined) (simple_ten refined near_refined kept.simple_city);
         wound_once = λ p. subst (IsWoundAtMostOnce p) (sym is_city) (once_ten city p near_city kept.wound_once);
         ground = ground;
         area = area;

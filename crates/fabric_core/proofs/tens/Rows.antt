@@ -232,5 +232,6 @@ balanced_ten state n h = record {
     below = below_ten state.next state.rows h.ids.below;
   };
   simple = simple_rows_ten state.rows n.rows h.simple;
+  simple_city = simple_ten state.refined n.refined h.simple_city;
   alike = alike_ten state.rows state.refined n.rows n.refined h.alike;
 }

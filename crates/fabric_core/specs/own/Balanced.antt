@@ -2,6 +2,7 @@
 use Rattle.std.specs.Prelude.{⊤, ℕ, ◌<◌, List, [], ◌∷◌}
 use Rattle.std.specs.List.{AllByRecursion}
 use Rattle.geo_exact.specs.Layers.{NumberedRing}
+use Rattle.ring_core.specs.Simple.{IsSimpleRing}
 use Rattle.fabric_core.specs.Tiling.{corner_lists}
 use Rattle.fabric_core.specs.Faults.{AreSimple}
 use Rattle.fabric_core.specs.Journal.{State}
@@ -21,8 +22,9 @@ pub record HasRisingIds (state : State) : Type 0 where
   pub up : Ascend state.rows
   pub below : AreBelow state.next state.rows
 
--- a state of simple rings that go alike with the city's refined ring
+-- a state of simple rings that go alike with the city's refined ring, which is simple, too
 pub record IsBalanced (state : State) : Type 0 where
   pub ids : HasRisingIds state
   pub simple : AreSimple state.rows
+  pub simple_city : IsSimpleRing state.refined
   pub alike : GoAlike (corner_lists state.rows) state.refined

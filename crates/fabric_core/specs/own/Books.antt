@@ -13,7 +13,8 @@ use Rattle.fabric_core.specs.own.Kept.{Kept, gone_by}
 -- the journal is lawful on the opening, and leads to what is kept; it knows by which entry each parcel went; the
 -- rings have so many corners together; and the opening's parcels and the city's corners are no more than a layer
 -- and a ring may have
-pub record IsBook {A : Type 0} (opening : State) (journal : List (JournalEntry A)) (kept : Kept) (corners : ℕ) : Type 0 where
+pub record IsBook {A : Type 0} (opening : State) (journal : List (JournalEntry A)) (kept : Kept)
+    (corners : ℕ) : Type 0 where
   pub balanced : IsBalanced opening
   pub lawful : IsLawful opening journal
   pub replays : replay opening journal ≡ state_of kept

@@ -12,12 +12,13 @@ use Rattle.ring_edits.specs.declared.fault.EditFault.TheVariants.{BadPath as NoP
 use Rattle.ring_edits.specs.declared.fault.EditFault.TheVariants.{SharedTwice as TwoBorders, NoMemory as NoRoom}
 use Rattle.fabric_core.specs.declared.refusal.Refusal.{Refusal}
 use Rattle.fabric_core.specs.declared.refusal.Refusal.TheVariants.{Unknown, Retired, BadPath, NotNeighbours}
-use Rattle.fabric_core.specs.declared.refusal.Refusal.TheVariants.{SharedTwice, NoSuchEdge, NotOnEdge, NoSuchCorner, Ring, NoMemory}
+use Rattle.fabric_core.specs.declared.refusal.Refusal.TheVariants.{SharedTwice, NoSuchEdge, NotOnEdge, NoSuchCorner}
+use Rattle.fabric_core.specs.declared.refusal.Refusal.TheVariants.{Ring, NoMemory}
 use Rattle.fabric_core.specs.Rows.{numbers}
 use Rattle.ring_edits.specs.declared.edit.Edit.{Edit}
 use Rattle.ring_edits.specs.declared.edit.Edit.TheVariants.{Split, Merge, Move, Insert, Straighten}
 use Rattle.ring_edits.specs.Edits.{IsPathAcross, IsBorderPath, ShareOneRun}
-use Rattle.fabric_core.specs.EditResults.{IsChange, rows_at_corner}
+use Rattle.fabric_core.specs.EditResults.{IsChange, rows_at_corner, rows_with_edge}
 use Rattle.fabric_core.specs.Journal.{State, JournalEntry, after_entry}
 use Rattle.fabric_core.specs.Refusals.{AreParcels, IsFirstAbsent, IsFirstBadRing, IsOwnRefusal, IsChangeRefusal}
 use Rattle.fabric_core.specs.Refusals.{Retires, named_ids, HaveBorderFault, HasNoEdge, IsBadMovePath, IsBent}
@@ -77,7 +78,8 @@ refusal_of NoRoom = NoMemory
 
 -- the refusal is that of the first of the rows that is no simple ring
 abbrev pub IsRingRefusal : List NumberedRing → Refusal → Type 0
-IsRingRefusal rows refusal = (which : ℕ) × (fault : RingFault) × IsFirstBadRing rows which fault × (refusal ≡ Ring which fault)
+IsRingRefusal rows refusal =
+    (which : ℕ) × (fault : RingFault) × IsFirstBadRing rows which fault × (refusal ≡ Ring which fault)
 
 -- the rings of shapes
 abbrev pub rings_of_shapes : {A : Type 0} → List (Shape A) → List (List Corner)
@@ -89,7 +91,8 @@ pub record AddWithin (corners rows : ℕ) (news : List NumberedRing) : Type 0 wh
   pub together : corners + corner_count news ≤ LAYER_CORNERS
   pub number : rows + length news ≤ LAYER_RECORDS
 
--- why an edit makes no draft: an id that is no parcel's, what the edit asks for itself, or limits and rings of what it makes
+-- why an edit makes no draft: an id that is no parcel's, what the edit asks for
+-- itself, or limits and rings of what it makes
 abbrev pub IsDraftRefusal : {A : Type 0} → Kept → Edit A → Refusal → Type 0
 IsDraftRefusal kept edit refusal =
     IsFirstTold kept (named_ids edit) refusal
@@ -114,15 +117,18 @@ pub record IsMade {A : Type 0} (old new : Kept) (entry : JournalEntry A) : Type 
   pub gone : (id by : ℕ) → (gone_by new id ≡ Some by)
       ↔ ((gone_by old id ≡ Some by) ⊎ (Retires entry id × (entry.number ≡ by)))
 
--- what is so of an edit for which memory is asked: the ids that it names are parcels', and its path and border
--- are such that nothing refuses them
+-- what is so of an edit that is refused where memory runs out: the ids that it names are parcels', its path and
+-- border are such that nothing refuses them, and some parcel has its edge or its corner
 abbrev pub AsksMemory : {A : Type 0} → State → Edit A → Type 0
-AsksMemory state (Split id path) = (ring : List Corner) × Contains state.rows (numbered id ring) × IsPathAcross ring path
+AsksMemory state (Split id path) =
+    (ring : List Corner) × Contains state.rows (numbered id ring) × IsPathAcross ring path
 AsksMemory state (Merge a b) =
-    (ring_a : List Corner) × (ring_b : List Corner) × Contains state.rows (numbered a ring_a) × Contains state.rows (numbered b ring_b)
+    (ring_a : List Corner) × (ring_b : List Corner) × Contains state.rows (numbered a ring_a)
+    × Contains state.rows (numbered b ring_b)
     × ShareOneRun ring_a ring_b
 AsksMemory state (Move a b path) =
-    (ring_a : List Corner) × (ring_b : List Corner) × Contains state.rows (numbered a ring_a) × Contains state.rows (numbered b ring_b)
+    (ring_a : List Corner) × (ring_b : List Corner) × Contains state.rows (numbered a ring_a)
+    × Contains state.rows (numbered b ring_b)
     × IsBorderPath ring_a ring_b path
-AsksMemory state (Insert from to at) = ⊤
-AsksMemory state (Straighten at) = ⊤
+AsksMemory state (Insert from to at) = (from ≢ to) × (rows_with_edge from to state.rows ≢ [])
+AsksMemory state (Straighten at) = rows_at_corner at state.rows ≢ []

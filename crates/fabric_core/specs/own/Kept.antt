@@ -8,6 +8,7 @@ use Rattle.geo_exact.specs.Point.{Point}
 use Rattle.geo_exact.specs.declared.limits.TheConstants.{LAYER_RECORDS, RING_CORNERS}
 use Rattle.geo_exact.specs.Bounds.{HoldsCorner, IsLeastBox}
 use Rattle.geo_exact.specs.Layers.{NumberedRing}
+use Rattle.ring_core.specs.Simple.{IsSimpleRing}
 use Rattle.cell_index.specs.declared.entry.IndexEntry.{IndexEntry}
 use Rattle.cell_index.specs.Cells.{Grid, Indexes}
 use Rattle.parcel_table.specs.declared.parcels.Parcel.{Parcel}
@@ -40,8 +41,9 @@ by_ids pairs index = record {
   beside = map (under_id pairs) index.beside;
 }
 
--- what they show: their rows by ascending id, the city's ring as it was read, that ring refined, the grid index, in which their boxes stand
--- under their ids, the next id, and for each id below it the number by which its parcel went, where one did
+-- what they show: their rows by ascending id, the city's ring as it was read, that ring refined, the
+-- grid index, in which their boxes stand under their ids, the next id, and for each id below it the
+-- number by which its parcel went, where one did
 pub record Kept : Type 0 where
   pub rows : List NumberedRing
   pub city : List Corner
@@ -83,13 +85,15 @@ pub record MayBeKept (rows : List NumberedRing) (refined : List Corner) : Type 0
   pub within : AreWithinLimits rows
   pub alike : GoAlike (corner_lists rows) refined
 
--- what is so at each moment: the rows rise by id, are within the limits, and go alike with the refined city, which has
--- the city's ground; the city goes round no place twice; and the index is that of the parcels' boxes over
--- the city's least box, in which all rows lie
-pub record IsKept {A : Type 0} (parcels : List (ℕ × Parcel A)) (city refined : List Corner) (index : Grid) : Type 0 where
+-- what is so at each moment: the rows rise by id, are within the limits, and go alike with the refined city, a simple
+-- ring, which has the city's ground; the city goes round no point twice; and the index is that of the parcels' boxes
+-- over the city's least box, in which all rows lie
+pub record IsKept {A : Type 0} (parcels : List (ℕ × Parcel A)) (city refined : List Corner)
+    (index : Grid) : Type 0 where
   pub ids_rise : IsStrictlyIncreasing (numbers (rows_of_keyed parcels))
   pub within : AreWithinLimits (rows_of_keyed parcels)
   pub alike : GoAlike (corner_lists (rows_of_keyed parcels)) refined
+  pub simple_city : IsSimpleRing refined
   pub wound_once : (p : Point) → IsWoundAtMostOnce p city
   pub ground : CoversAlike city refined
   pub area : IsLeastBox index.area city

@@ -31,12 +31,14 @@ AreShapesOfRings rings shapes = AllZip (λ ring shape. shape.ring.corners ≡ ri
 abbrev pub corners_of_shapes : {A : Type 0} → List (Shape A) → List (List Corner)
 corners_of_shapes shapes = map (λ shape. shape.ring.corners) shapes
 
--- the rings are the records', noded for all corners of the layer and begun at their least corners, and their numbers stand beside them
+-- the rings are the records', noded for all corners of the layer and begun at their least corners, and their numbers
+-- stand beside them
 pub record AreNodedRings (records : List NumberedRing) (city : List Corner) (ids : List ℕ)
     (rings : List (List Corner)) (refined : List Corner) : Type 0 where
   pub noded : List (List Corner)
   pub are_numbers : ids ≡ numbers records
-  pub are_noded : AllZip (λ record_ring out. IsNoded record_ring.corners (corners_of_layer records city) out) records noded
+  pub are_noded :
+      AllZip (λ record_ring out. IsNoded record_ring.corners (corners_of_layer records city) out) records noded
   pub are_begun : rings ≡ map begun_at_least noded
   pub is_refined : IsNoded city (corners_of_layer records city) refined
 

@@ -7,7 +7,8 @@ use Rattle.geo_exact.specs.Segments.{IsStrictlyInside}
 use Rattle.ring_core.specs.declared.shape.Shape.{Shape}
 use Rattle.ring_edits.specs.declared.edit.Edit.{Edit}
 use Rattle.ring_edits.specs.declared.edit.Edit.TheVariants.{Insert, Straighten}
-use Rattle.ring_edits.specs.Edits.{has_edge_between, put_between, with_corner, has_corner, without_corner, straightened, BendsAt}
+use Rattle.ring_edits.specs.Edits.{has_edge_between, put_between, with_corner, has_corner, without_corner, straightened}
+use Rattle.ring_edits.specs.Edits.{BendsAt}
 use Rattle.fabric_core.specs.declared.ring_change.RingChange.{RingChange}
 use Rattle.fabric_core.specs.declared.ring_change.RingChange.TheVariants.{PutIn, TakeOut}
 use Rattle.fabric_core.specs.Rows.{numbers}
@@ -47,7 +48,8 @@ abbrev pub KeepsGround : RingChange → List Corner → Type 0
 KeepsGround (PutIn from to at) ring = IsStrictlyInside at from to
 KeepsGround (TakeOut at) ring = ¬ BendsAt at ring
 
--- the rows that are changed, and a row after the change, where its ring is one that is changed, and where it may be none
+-- the rows that are changed, and a row after the change, where its ring is one
+-- that is changed, and where it may be none
 abbrev pub rows_changed : RingChange → List NumberedRing → List NumberedRing
 rows_changed change rows = filter (λ row. is_changed change row.corners) rows
 

@@ -1,4 +1,4 @@
--- How a place lies to rows gone through one by one. Public contracts do not speak of it.
+-- How a point lies to rows gone through one by one. Public contracts do not speak of it.
 use Rattle.std.specs.Prelude.{◌↔◌, ℕ, List}
 use Rattle.std.specs.List.{Contains}
 use Rattle.geo_exact.specs.Point.{Point}

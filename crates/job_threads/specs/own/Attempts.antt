@@ -20,9 +20,10 @@ IsFinished stays tried done = MatchResult tried (λ job. done ≡ job) (λ refus
 abbrev pub threads_of : {J : Type 0} → List (Attempt J) → List Bool
 threads_of tried = map (λ attempt. attempt.had_thread) tried
 
--- Behind the others stands what became of the jobs, each in its place; and of those that had no thread the least rank is told.
-pub record IsTriedBehind {J : Type 0} (stays : J → J → Type 0) (rank_of : J → ℕ) (jobs : List J) (old new : List (Attempt J))
-    (refused : Option ℕ) : Type 0 where
+-- Behind the others stands what became of the jobs, each in its place; and of those that
+-- had no thread the least rank is told.
+pub record IsTriedBehind {J : Type 0} (stays : J → J → Type 0) (rank_of : J → ℕ) (jobs : List J)
+    (old new : List (Attempt J)) (refused : Option ℕ) : Type 0 where
   pub tried : List (Attempt J)
   pub are_all : new ≡ old ++ tried
   pub each : AllZip (λ job attempt. WasTried stays job attempt.job) jobs tried

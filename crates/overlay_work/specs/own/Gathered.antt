@@ -32,7 +32,8 @@ ArePairsOfHands (hand ∷ hands) pairs =
     (rest : List (ℕ × ℕ)) × (pairs ≡ hand.kept ++ rest)
     × ArePairsOfAll hand.task.rows hand.task.zones hand.did hand.kept × ArePairsOfHands hands rest
 
--- the places that the hands claimed, what they did, and the lists that they found at their end, one hand's behind the other's
+-- the places that the hands claimed, what they did, and the lists that they found at
+-- their end, one hand's behind the other's
 abbrev pub claimed_by : List Progress → List (ℕ × ℕ)
 claimed_by hands = flat_map (λ hand. hand.claimed) hands
 

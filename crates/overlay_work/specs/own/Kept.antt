@@ -62,7 +62,8 @@ pub record IsTask (task : Task) : Type 0 where
   pub few_zones : length task.zones ≤ LAYER_CORNERS
 
 -- what a hand keeps
-pub record IsHand (task : Task) (standing : Standing) (holds : Option ℕ) (kept : List (ℕ × ℕ)) (tests : ℕ) : Type 0 where
+pub record IsHand (task : Task) (standing : Standing) (holds : Option ℕ) (kept : List (ℕ × ℕ))
+    (tests : ℕ) : Type 0 where
   pub claims : standing.lists ≡ task.claims
   pub here : AllByRecursion (Contains (numbers task.rows)) (ids_at task.lists standing.places)
   pub holds_last : HoldsLast holds (ids_at task.lists standing.places)

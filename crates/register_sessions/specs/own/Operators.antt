@@ -1,5 +1,6 @@
 -- What the operator is answered: which call answers which line, of which sheet.
-use Rattle.std.specs.Prelude.{◌≡◌, ◌≢◌, ◌⊎◌, Bool, true, false, ℕ, List, [], ◌++◌, length, codes, Option, None, Some, Result}
+use Rattle.std.specs.Prelude.{◌≡◌, ◌≢◌, ◌⊎◌, Bool, true, false, ℕ, List, [], ◌++◌, length, codes, Option, None, Some}
+use Rattle.std.specs.Prelude.{Result}
 use Rattle.std.specs.Borrow.{Bor}
 use mathlib.Core.List.{IsPrefix}
 use Rattle.fabric_core.specs.EditResults.{IsLawful}
@@ -10,7 +11,8 @@ use Rattle.city_layers.specs.declared.fault.ToolFault.{ToolFault}
 use Rattle.parcel_runs.specs.CheckReport.{tiling_line}
 use Rattle.session_lines.specs.Answers.{published_line}
 use Rattle.session_lines.specs.declared.line.Line.{Line}
-use Rattle.session_lines.specs.declared.line.Line.TheVariants.{Skipped, Edit, Locate, Parcel, Entries, Overlay, Check, Export, Publish}
+use Rattle.session_lines.specs.declared.line.Line.TheVariants.{Skipped, Edit, Locate, Parcel, Entries, Overlay, Check}
+use Rattle.session_lines.specs.declared.line.Line.TheVariants.{Export, Publish}
 use Rattle.session_lines.specs.declared.line.Line.TheVariants.{OverlayAreas, Close}
 use Rattle.session_lines.specs.declared.faults.SessionFault.{SessionFault}
 use Rattle.session_lines.specs.declared.faults.SessionFault.TheVariants.{NoZones}
@@ -20,7 +22,8 @@ use Rattle.session_rooms.specs.declared.lines.Came.{Came}
 use Rattle.session_rooms.specs.declared.lines.Came.TheVariants.{Line as LineCame}
 use Rattle.session_rooms.specs.declared.room.Made.{Made}
 use Rattle.session_rooms.specs.Asked.{IsAskedBy, IsUnasked}
-use Rattle.session_rooms.specs.DeskAnswers.{GoesOnBy, HasWindowGoneOn, HasWindowLearnt, IsOfSameClerk, IsCardAfter, IsErrorLine}
+use Rattle.session_rooms.specs.DeskAnswers.{GoesOnBy, HasWindowGoneOn, HasWindowLearnt, IsOfSameClerk, IsCardAfter}
+use Rattle.session_rooms.specs.DeskAnswers.{IsErrorLine}
 use Rattle.session_rooms.specs.DeskAnswers.{IsAnswerTo, IsAnswerOf}
 use Rattle.session_rooms.specs.Rooms.{IsRoomFault, IsDrawn}
 use Rattle.register_sessions.specs.declared.post.Next.{Next}
@@ -43,12 +46,15 @@ module _ {A : Type 0} where
   -- the table of a sheet and of zones is told, with the areas or without them
   abbrev pub TellsOverlay : {W : Type 0} → (W → Option (List ℕ)) → Bool → Book A → Tiles → Outbox W → Outbox W → Type 0
   TellsOverlay written false sheet zones before after =
-      AnswersOverlay sheet.now.rows zones.rows (length sheet.journal) before.text after.text (written before.out) (written after.out)
+      AnswersOverlay sheet.now.rows zones.rows (length sheet.journal) before.text after.text
+      (written before.out) (written after.out)
   TellsOverlay written true sheet zones before after =
-      AnswersAreas sheet.now.rows zones.rows (length sheet.journal) before.text after.text (written before.out) (written after.out)
+      AnswersAreas sheet.now.rows zones.rows (length sheet.journal) before.text after.text
+      (written before.out) (written after.out)
 
   -- so it is of zones of the sheet's city; where the zones are another city's, there are none
-  abbrev pub IsOverlayReport : {W : Type 0} → (W → Option (List ℕ)) → Bool → Book A → Tiles → Outbox W → Outbox W → Type 0
+  abbrev pub IsOverlayReport : {W : Type 0} → (W → Option (List ℕ)) → Bool → Book A → Tiles → Outbox W → Outbox W
+      → Type 0
   IsOverlayReport written has_areas sheet zones before after =
       ((zones.city ≡ sheet.city) × TellsOverlay written has_areas sheet zones before after)
       ⊎ ((zones.city ≢ sheet.city) × Collects (IsErrorLine NoZones) before after)
@@ -87,20 +93,21 @@ module _ {A T : Type 0} where
       IsPublished office before after line ⊎ (IsRoomLine journal line × (after ≡ before))
 
   -- of a sheet of the office and these zones; or why the room draws none
-  abbrev pub IsZonesAnswer : {W : Type 0} → (W → Option (List ℕ)) → Bool → OfficeId A → Option T → Tiles → Outbox W → Outbox W → Type 0
+  abbrev pub IsZonesAnswer : {W : Type 0} → (W → Option (List ℕ)) → Bool → OfficeId A → Option T → Tiles → Outbox W
+      → Outbox W → Type 0
   IsZonesAnswer written has_areas office journal zones before after =
       ((sheet : Book A) × IsDrawn office sheet × IsOverlayReport written has_areas sheet zones before after)
       ⊎ Collects (IsRoomLine journal) before after
 
   -- `overlay` and `overlay areas`: of the session's zones, where there are some
-  abbrev pub IsOverlayAnswer : {W : Type 0} → (W → Option (List ℕ)) → Bool → OfficeId A → Option T → Option Tiles → Outbox W → Outbox W
-      → Type 0
+  abbrev pub IsOverlayAnswer : {W : Type 0} → (W → Option (List ℕ)) → Bool → OfficeId A → Option T → Option Tiles
+      → Outbox W → Outbox W → Type 0
   IsOverlayAnswer written has_areas office journal None before after = Collects (IsErrorLine NoZones) before after
   IsOverlayAnswer written has_areas office journal (Some zones) before after =
       IsZonesAnswer written has_areas office journal zones before after
 
-  -- where no file of the session's own would be replaced, what is in the way is told; else a sheet of the office is exported,
-  -- or it is told why the room draws none
+  -- where no file of the session's own would be replaced, what is in the way is told; else a sheet of the office is
+  -- exported, or it is told why the room draws none
   abbrev pub IsFreeExport : {X : Type 0} → (X → List ℕ → Option (List ℕ) → Type 0)
       → (X → List ℕ → List ℕ → List ℕ → Result (Unit {0}) ToolFault → Type 0) → OfficeId A → Option T → X
       → List ℕ → List ℕ → Type 0
@@ -132,30 +139,32 @@ next_of Close = NextEnd
 
 module _ {H J T : Type 0} where
   -- what any desk is answered to what came
-  pub record IsDeskAnswer (office : OfficeId (Bor H)) (journal : Option T) (chair later : Chair H J) (came : Came) (said text : List ℕ)
-      : Type 0 where
+  pub record IsDeskAnswer (office : OfficeId (Bor H)) (journal : Option T) (chair later : Chair H J) (came : Came)
+      (said text : List ℕ) : Type 0 where
     pub made : Option (Made H J)
     pub is_answer : IsAnswerOf office journal chair later came said made text
     pub card : IsOfSameClerk chair.card later.card
     pub window : HasWindowGoneOn chair.window later.window
 
   -- what the operator, too, is answered to a line that any desk may be asked
-  pub record IsCommonAnswer (office : OfficeId (Bor H)) (journal : Option T) (chair later : Chair H J) (line : Line (Bor H)) (text : List ℕ)
-      : Type 0 where
+  pub record IsCommonAnswer (office : OfficeId (Bor H)) (journal : Option T) (chair later : Chair H J)
+      (line : Line (Bor H)) (text : List ℕ) : Type 0 where
     pub made : Option (Made H J)
     pub is_answer : IsAnswerTo office journal chair later line made text
     pub card : IsCardAfter line chair.card later.card
     pub window : HasWindowGoneOn chair.window later.window
 
-  -- Which call answers which of the operator's lines: with what may be told of a path, found at an export's base, and given
-  -- there, what a writer tells that was written, and the paths of the session's own files. `close` is answered once all desks
-  -- have ended.
+  -- Which call answers which of the operator's lines: with what may be told of a path, found at an export's base, and
+  -- given there, what a writer tells that was written, and the paths of the session's own files. `close` is answered
+  -- once all desks have ended.
   module _ {X W : Type 0} (tells : X → List ℕ → Option (ℕ × ℕ) → Type 0)
       (finds : X → List ℕ → Option (List ℕ) → Type 0)
-      (replace_gives : X → List ℕ → List ℕ → List ℕ → Result (Unit {0}) ToolFault → Type 0) (written : W → Option (List ℕ))
-      (office : OfficeId (Bor H)) (journal : Option T) (exports : X) (files : List (List ℕ)) (zones : Option Tiles) where
+      (replace_gives : X → List ℕ → List ℕ → List ℕ → Result (Unit {0}) ToolFault → Type 0)
+      (written : W → Option (List ℕ)) (office : OfficeId (Bor H)) (journal : Option T) (exports : X)
+      (files : List (List ℕ)) (zones : Option Tiles) where
     abbrev pub IsOperatorAnswer : Chair H J → Chair H J → Line (Bor H) → Outbox W → Outbox W → Type 0
-    IsOperatorAnswer chair later Check before after = (later ≡ chair) × Collects (IsCheckAnswer office journal) before after
+    IsOperatorAnswer chair later Check before after =
+        (later ≡ chair) × Collects (IsCheckAnswer office journal) before after
     IsOperatorAnswer chair later Overlay before after =
         (later ≡ chair) × IsOverlayAnswer written false office journal zones before after
     IsOperatorAnswer chair later OverlayAreas before after =
@@ -166,19 +175,20 @@ module _ {H J T : Type 0} where
     IsOperatorAnswer chair later Publish before after =
         (later.card ≡ chair.card) × Collects (IsPublishAnswer office journal chair.window later.window) before after
     IsOperatorAnswer chair later Close before after = (later ≡ chair) × (after ≡ before)
-    IsOperatorAnswer chair later line before after = Collects (IsCommonAnswer office journal chair later line) before after
+    IsOperatorAnswer chair later line before after =
+        Collects (IsCommonAnswer office journal chair later line) before after
 
     -- what came is answered: what its line asks for, or why it asks for nothing
-    pub record IsAskedOfOperator (chair later : Chair H J) (came : Came) (said : List ℕ) (before : Outbox W) (next : Next)
-        (after : Outbox W) : Type 0 where
+    pub record IsAskedOfOperator (chair later : Chair H J) (came : Came) (said : List ℕ) (before : Outbox W)
+        (next : Next) (after : Outbox W) : Type 0 where
       pub is_line : came ≡ LineCame
       pub asked : Asked (Bor H)
       pub is_asked : IsAskedBy said asked
       pub is_answer : IsOperatorAnswer chair later asked.line before after
       pub follows : next ≡ next_of asked.line
 
-    pub record IsUnaskedOfOperator (chair later : Chair H J) (came : Came) (said : List ℕ) (before : Outbox W) (next : Next)
-        (after : Outbox W) : Type 0 where
+    pub record IsUnaskedOfOperator (chair later : Chair H J) (came : Came) (said : List ℕ) (before : Outbox W)
+        (next : Next) (after : Outbox W) : Type 0 where
       pub fault : SessionFault
       pub is_fault : IsUnasked (Bor H) came said fault
       pub unchanged : later ≡ chair
@@ -187,4 +197,5 @@ module _ {H J T : Type 0} where
 
     abbrev pub IsOperatorAnswerOf : Chair H J → Chair H J → Came → List ℕ → Outbox W → Next → Outbox W → Type 0
     IsOperatorAnswerOf chair later came said before next after =
-        IsAskedOfOperator chair later came said before next after ⊎ IsUnaskedOfOperator chair later came said before next after
+        IsAskedOfOperator chair later came said before next after
+        ⊎ IsUnaskedOfOperator chair later came said before next after

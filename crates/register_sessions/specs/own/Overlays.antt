@@ -13,7 +13,8 @@ use Rattle.overlay_work.specs.declared.close.CloseFault.TheVariants.{NoThread, H
 
 -- What was collected, the report of a table, lines of areas and the end of the answer were written after the bytes that
 -- were written before; nothing is collected then.
-pub record WritesTable (table : Overlay) (areas : List AreaLine) (before after : List ℕ) (old new : Option (List ℕ)) : Type 0 where
+pub record WritesTable (table : Overlay) (areas : List AreaLine) (before after : List ℕ)
+    (old new : Option (List ℕ)) : Type 0 where
   pub report : List ℕ
   pub is_report : IsReport table report
   pub is_written : Appends old new (before ++ report ++ flat_map area_text areas ++ codes ".\n")
@@ -26,13 +27,15 @@ pub record IsTableOf (rows zones : List NumberedRing) (entries : ℕ) (table : O
   pub has_entries : table.entries ≡ entries
 
 -- the answer to `overlay`
-pub record AnswersOverlay (rows zones : List NumberedRing) (entries : ℕ) (before after : List ℕ) (old new : Option (List ℕ)) : Type 0 where
+pub record AnswersOverlay (rows zones : List NumberedRing) (entries : ℕ) (before after : List ℕ)
+    (old new : Option (List ℕ)) : Type 0 where
   pub table : Overlay
   pub is_table : IsTableOf rows zones entries table
   pub writes : WritesTable table [] before after old new
 
 -- the answer to `overlay areas`: the lines of each parcel sum to its twice-area, exactly
-pub record AnswersAreas (rows zones : List NumberedRing) (entries : ℕ) (before after : List ℕ) (old new : Option (List ℕ)) : Type 0 where
+pub record AnswersAreas (rows zones : List NumberedRing) (entries : ℕ) (before after : List ℕ)
+    (old new : Option (List ℕ)) : Type 0 where
   pub table : Overlay
   pub is_table : IsTableOf rows zones entries table
   pub areas : List AreaLine

@@ -1,5 +1,6 @@
 -- How lines are answered, one after the other: each once, in order, and no half of an answer stays.
-use Rattle.std.specs.Prelude.{◌≡◌, ◌⊎◌, Bool, true, false, ℕ, List, [], length, take, Option, None, Some, Result, Ok, Err}
+use Rattle.std.specs.Prelude.{◌≡◌, ◌⊎◌, Bool, true, false, ℕ, List, [], ◌++◌, length, take, Option, None, Some}
+use Rattle.std.specs.Prelude.{Result, Ok, Err}
 use Rattle.std.specs.Io.KnownBytes.{Appends}
 use Rattle.std.specs.Io.BufRead.{strip_last}
 use Rattle.geo_exact.specs.Bytes.{raised}
@@ -48,15 +49,17 @@ module _ {W : Type 0} where
   abbrev pub IsRefused : Outbox W → Outbox W → Type 0
   IsRefused asked half = half.out ≡ asked.out
 
-  -- There was no memory for an answer. Of what is collected then the first so many bytes were written, which stood before the
-  -- answer; of the answer none is kept; and it is said that there was no memory.
+  -- There was no memory for an answer. Of what was collected the first so many bytes were written, which stood before
+  -- the answer, and behind them that there was no memory; of the answer nothing was written, and nothing is collected.
   abbrev pub IsExcused : (W → Option (List ℕ)) → ℕ → Outbox W → Outbox W → Type 0
-  IsExcused written count before after = Appends (written before.out) (written after.out) (take count before.text)
-      × (after.text ≡ error_line (fault_text NoMemory))
+  IsExcused written count before after =
+      Appends (written before.out) (written after.out) (take count before.text ++ error_line (fault_text NoMemory))
+      × (after.text ≡ [])
 
-  -- What follows an answer, before which so many bytes were collected: the next line, with the answer as it was collected; or none,
-  -- once all was written.
-  abbrev pub IsFollowed : (W → Option (List ℕ)) → (W → ℕ) → ℕ → Result Next Trouble → Outbox W → Outbox W → Option Served → Type 0
+  -- What follows an answer, before which so many bytes were collected: the next line, with the answer as it was
+  -- collected; or none, once all was written.
+  abbrev pub IsFollowed : (W → Option (List ℕ)) → (W → ℕ) → ℕ → Result Next Trouble → Outbox W → Outbox W
+      → Option Served → Type 0
   IsFollowed written failures count (Ok NextLine) before after served = (served ≡ None) × (after ≡ before)
   IsFollowed written failures count (Ok NextEnd) before after served =
       (served ≡ Some Ended) × (IsWritten written before after ⊎ BreaksOff written failures before after)
@@ -64,9 +67,10 @@ module _ {W : Type 0} where
   IsFollowed written failures count (Err NoMemoryLeft) before after served =
       ((served ≡ None) × IsExcused written count before after) ⊎ (served ≡ Some Deaf)
 
-  -- A line was taken, and answered, once. What was collected before is collected still, or was written whole. Where there was no
-  -- memory for the answer, that is said, and nothing of the answer is collected.
-  pub record IsServed (taken : (List ℕ → Type 0) → Came → Type 0) (answers : Came → List ℕ → Outbox W → Outbox W → Type 0)
+  -- A line was taken, and answered, once. What was collected before is collected still, or was written whole. Where
+  -- there was no memory for the answer, that is said, and nothing of the answer is collected.
+  pub record IsServed (taken : (List ℕ → Type 0) → Came → Type 0)
+      (answers : Came → List ℕ → Outbox W → Outbox W → Type 0)
       (written : W → Option (List ℕ)) (before after : Outbox W) : Type 0 where
     pub came : Came
     pub line : List ℕ

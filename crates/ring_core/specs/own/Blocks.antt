@@ -1,4 +1,5 @@
--- Blocks: numbers that follow one another, and a leaning box that holds the corners at them. Public contracts do not speak of them.
+-- Blocks: numbers that follow one another, and a leaning box that holds the corners at them. Public contracts do not
+-- speak of them.
 use Rattle.std.specs.Prelude.{◌≡◌, ℕ, ◌-◌, ◌<◌, ◌≤◌, if◌then◌else◌, nat_lt, List, length, slice_index_or}
 use Rattle.geo_exact.specs.declared.corner.Corner.{Corner}
 use Rattle.geo_exact.specs.Places.{corner_at}
@@ -20,7 +21,8 @@ pub record HasCorner (corners : List Corner) (j : ℕ) (span : Span) (box : Lean
 pub record AreBlocks (corners : List Corner) (spans : List Span) (boxes : List LeaningBox) : Type 0 where
   pub same_length : length boxes ≡ length spans
   pub each : (j : ℕ) → j < length corners → (b : ℕ) × (b < length spans)
-      × ((span : Span) (box : LeaningBox) → HasCorner corners j (slice_index_or spans b span) (slice_index_or boxes b box))
+      × ((span : Span) (box : LeaningBox)
+      → HasCorner corners j (slice_index_or spans b span) (slice_index_or boxes b box))
 
 -- the blocks are those of the corners, unless there is none
 abbrev pub AreBlocksOrNone : List Corner → List Span → List LeaningBox → Type 0

@@ -1,5 +1,5 @@
--- Edges of a ring listed by their places, and leaning boxes of blocks of eight: what the check of a ring looks through. Public contracts
--- do not speak of it.
+-- Edges of a ring listed by their places, and leaning boxes of blocks of eight: what the check of a ring looks through.
+-- Public contracts do not speak of it.
 use Rattle.std.specs.Prelude.{◌≡◌, ℕ, ◌+◌, ◌*◌, ◌<◌, ◌≤◌, List, length, slice_index_or}
 use Rattle.geo_exact.specs.declared.corner.Corner.{Corner}
 use Rattle.geo_exact.specs.Places.{after, corner_at}
@@ -31,7 +31,8 @@ HoldsEdge box ring i = IsHeld box (corner_at ring i) × IsHeld box (corner_at ri
 pub record AreBoxed (ring : List Corner) (list : List Placed) (boxes : List LeaningBox) : Type 0 where
   pub all : length list ≤ BLOCK_EDGES * length boxes
   pub some : (b : ℕ) → b < length boxes → BLOCK_EDGES * b < length list
-  pub each : (b p : ℕ) (d : LeaningBox) → b < length boxes → BLOCK_EDGES * b ≤ p → p < BLOCK_EDGES * b + BLOCK_EDGES → p < length list
+  pub each : (b p : ℕ) (d : LeaningBox) → b < length boxes → BLOCK_EDGES * b ≤ p
+      → p < BLOCK_EDGES * b + BLOCK_EDGES → p < length list
       → HoldsEdge (slice_index_or boxes b d) ring (edge_at list p)
 
 -- edges i and j meet only as neighbours, whichever is the first

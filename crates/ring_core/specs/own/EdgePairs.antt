@@ -1,4 +1,5 @@
--- Two edges by their ends: what the code tests of a pair before it is said of edges by number. Public contracts do not speak of it.
+-- Two edges by their ends: what the code tests of a pair before it is said of edges by
+-- number. Public contracts do not speak of it.
 use Rattle.std.specs.Prelude.{◌≡◌}
 use Rattle.std.specs.Int.{int_min, int_max}
 use Rattle.geo_exact.specs.declared.bounds.Bounds.{Bounds}

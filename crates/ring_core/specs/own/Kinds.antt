@@ -1,5 +1,6 @@
--- What the code of the clipping remembers of each corner that is left: flat, bent (neither flat nor a left turn), or a left turn, and then
--- the number of another corner in its closed triangle, once one was found there. Public contracts do not speak of it.
+-- What the code of the clipping remembers of each corner that is left: flat, bent (neither flat nor a left turn), or a
+-- left turn, and then the number of another corner in its closed triangle, once one was found there. Public contracts
+-- do not speak of it.
 use Rattle.std.specs.Prelude.{◌≡◌, ◌≢◌, ◌⊎◌, ℕ, ◌+◌, ◌<◌, ◌≤◌, pos, ◌<ℤ◌}
 use Rattle.std.specs.Prelude.{if◌then◌else◌, nat_lt, List, length}
 use Rattle.std.specs.Prelude.{slice_index_or}
@@ -72,7 +73,8 @@ pub record HaveFree (start : ℕ) (corners : List Corner) (numbers : List ℕ) (
   pub in_kinds : start ≤ length kinds
 
 -- what is kept beside the corners is right
-pub record AreKept (rest : List Corner) (numbers : List ℕ) (kinds : List Kind) (marks : List Reach) (seen : Seen) : Type 0 where
+pub record AreKept (rest : List Corner) (numbers : List ℕ) (kinds : List Kind) (marks : List Reach)
+    (seen : Seen) : Type 0 where
   pub as_many : length numbers ≡ length rest
   pub ascend : IsNonDecreasing numbers
   pub are : AreKinds rest numbers kinds
@@ -92,14 +94,18 @@ abbrev pub WasBeside : ℕ → ℕ → ℕ → Type 0
 WasBeside m k j = (j + 1 ≡ k) ⊎ (j ≡ k) ⊎ ((k ≡ 0) × (j + 1 ≡ m)) ⊎ ((k ≡ m) × (j ≡ 0))
 
 -- the rest is the whole without corner k, whose number was `gone`, and the numbers are left without it
-pub record IsTakenOut (whole : List Corner) (numbers : List ℕ) (k gone : ℕ) (rest : List Corner) (left : List ℕ) : Type 0 where
+pub record IsTakenOut (whole : List Corner) (numbers : List ℕ) (k gone : ℕ) (rest : List Corner)
+    (left : List ℕ) : Type 0 where
   pub below : k < length whole
   pub as_many : length numbers ≡ length whole
   pub is_rest : rest ≡ remove whole k
   pub is_left : left ≡ remove numbers k
   pub is_gone : gone ≡ slice_index_or numbers k 0
 
--- where corner k was taken out of any ring, and the kinds of the others were right in it, the new kinds are right in the rest
+-- where corner k was taken out of any ring, and the kinds of the others were right in
+-- it, the new kinds are right in the rest
 abbrev pub AreKindsOnceOut : ℕ → ℕ → List Corner → List ℕ → List Kind → List Kind → Type 0
-AreKindsOnceOut k gone rest left old new = (whole : List Corner) (numbers : List ℕ) → IsTakenOut whole numbers k gone rest left
-    → ((j : ℕ) → j < length rest → IsKind whole numbers (number_before k j) (slice_index_or old j Flat)) → AreKinds rest left new
+AreKindsOnceOut k gone rest left old new =
+    (whole : List Corner) (numbers : List ℕ) → IsTakenOut whole numbers k gone rest left
+    → ((j : ℕ) → j < length rest → IsKind whole numbers (number_before k j) (slice_index_or old j Flat))
+    → AreKinds rest left new

@@ -1,4 +1,5 @@
--- Corners of a ring in order along an axis: what the code of the clipping looks through for a witness. Public contracts do not speak of it.
+-- Corners of a ring in order along an axis: what the code of the clipping looks through for a witness. Public contracts
+-- do not speak of it.
 use Rattle.std.specs.Prelude.{◌≡◌, ℕ, ℤ, pos, ◌+ℤ◌, ◌^◌, ◌<◌, List, length, slice_index_or}
 use Rattle.std.specs.List.{Contains}
 use Rattle.std.specs.List.Sorted.{IsNonDecreasingBy}
@@ -46,7 +47,8 @@ abbrev pub AreListedOrNone : Axis → List Corner → List ℕ → List Listed �
 AreListedOrNone axis corners numbers list = 0 < length list → AreListed axis corners numbers list
 
 -- along each axis all are, or none is
-pub record AreSortedOrNone (corners : List Corner) (numbers : List ℕ) (from_west from_south : List Listed) : Type 0 where
+pub record AreSortedOrNone (corners : List Corner) (numbers : List ℕ)
+    (from_west from_south : List Listed) : Type 0 where
   pub by_x : AreListedOrNone X corners numbers from_west
   pub by_y : AreListedOrNone Y corners numbers from_south
 

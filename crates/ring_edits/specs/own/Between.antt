@@ -1,4 +1,5 @@
--- Corners of a ring between two of its numbers, paths between two, and edges by number: what the code copies and looks at.
+-- Corners of a ring between two of its numbers, paths between two, and edges by
+-- number: what the code copies and looks at.
 use Rattle.std.specs.Prelude.{◌≡◌, ℕ, ◌+◌, ◌<◌, nat_lt, if◌then◌else◌, List, ◌++◌, length, take, drop, slice_range}
 use Rattle.geo_exact.specs.declared.corner.Corner.{Corner}
 use Rattle.geo_exact.specs.Places.{corner_at, after, before}
@@ -24,4 +25,5 @@ edge_at ring k = record { from = corner_at ring k; to = corner_at ring (after (l
 -- corner k of the ring is the one, and does not lie strictly inside the edge between its two neighbours
 pub record IsBentAt (ring : List Corner) (at : Corner) (k : ℕ) : Type 0 where
   pub is_there : corner_at ring k ≡ at
-  pub is_not_flat : ¬ IsStrictlyInside at (corner_at ring (before (length ring) k)) (corner_at ring (after (length ring) k))
+  pub is_not_flat : ¬ IsStrictlyInside at (corner_at ring (before (length ring) k))
+      (corner_at ring (after (length ring) k))

@@ -5,7 +5,8 @@ use Rattle.geo_exact.specs.declared.corner.Corner.{Corner}
 use Rattle.geo_exact.specs.Places.{corner_at}
 use Rattle.ring_edits.specs.Edits.{IsSharedAt}
 
--- from a number on, those up to another have the property just where `holds`, and that one, where it is below n, just where not
+-- from a number on, those up to another have the property just where `holds`, and that
+-- one, where it is below n, just where not
 pub record IsAlikeUpTo (P : ℕ → Type 0) (n from : ℕ) (holds : Bool) (to : ℕ) : Type 0 where
   pub low : from ≤ to
   pub high : to ≤ n

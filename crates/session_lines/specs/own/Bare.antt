@@ -1,8 +1,8 @@
 -- What the code tells of lines that are always in the same words.
 use Rattle.std.specs.Prelude.{⊤}
 use Rattle.session_lines.specs.declared.line.Line.{Line}
-use Rattle.session_lines.specs.declared.line.Line.TheVariants.{Skipped, Edit, Locate, Parcel, Entries, Overlay, Check, Export, Publish}
-use Rattle.session_lines.specs.declared.line.Line.TheVariants.{OverlayAreas, Close}
+use Rattle.session_lines.specs.declared.line.Line.TheVariants.{Skipped, Edit, Locate, Parcel, Entries, Overlay, Check}
+use Rattle.session_lines.specs.declared.line.Line.TheVariants.{Export, Publish, OverlayAreas, Close}
 
 -- what a line asks for by the same words each time
 abbrev pub IsBare : {A : Type 0} → Line A → Type 0

@@ -6,11 +6,13 @@ use Rattle.geo_exact.specs.Interiors.{InteriorsMeet}
 use Rattle.ring_core.specs.declared.triangle.Tri.{Tri}
 use Rattle.ring_core.specs.Sums.{triangle_ring}
 
--- some corner of the triangle a b c is left of the way from g to h; else that way separates it from what is left of the way
+-- some corner of the triangle a b c is left of the way from g to h; else that way
+-- separates it from what is left of the way
 abbrev pub SeesSome : (g h a b c : Corner) → Type 0
 SeesSome g h a b c = (pos 0 <ℤ turn g h a) ⊎ (pos 0 <ℤ turn g h b) ⊎ (pos 0 <ℤ turn g h c)
 
--- each edge of the first triangle has some corner of the second on its left (the interiors meet where this holds both ways)
+-- each edge of the first triangle has some corner of the second on its left (the
+-- interiors meet where this holds both ways)
 abbrev pub NoEdgeSeparates : Tri → Tri → Type 0
 NoEdgeSeparates first second =
     SeesSome first.a first.b second.a second.b second.c

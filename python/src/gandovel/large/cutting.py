@@ -1,9 +1,9 @@
 """A layer cut into districts along its rings' own borders: balanced, compact, each with one simple outline.
 
 Rings are assigned by recursive bisection of their boxes' middles, at a right angle to the longer extent. What is not
-connected with the rest of its district, or lies enclosed in another, goes to a neighbour. Any simple outline gives right
-answers, since what the districts' runs and that of the layer of outlines tell adds up to what the whole layer's would
-(`compose`); outlines of the rings' own edges are those with which each district of a layer without faults tiles.
+connected with the rest of its district, or lies enclosed in another, goes to a neighbour. Any simple outline gives
+right answers, since what the districts' runs and that of the layer of outlines tell adds up to what the whole layer's
+would (`compose`); outlines of the rings' own edges are those with which each district of a layer without faults tiles.
 
 Where the outlines are more than a layer has, they are cut in turn, into districts of districts (`levels_of`).
 """
@@ -119,7 +119,8 @@ def _is_beyond(rings: Sequence[Array]) -> bool:
 
 
 def cut(rings: Sequence[Array], most: int) -> Districts:
-    """Cuts a layer, (k, 2) int64 rings in mm, into districts of at most `most` rings as far as they are connected so."""
+    """Cuts a layer, (k, 2) int64 rings in mm, into districts of at most `most` rings as far as they are connected
+    so."""
     edges = _Edges.of(rings)
     sizes = np.diff(edges.begins)
     corners = edges.points[edges.start]
@@ -283,7 +284,8 @@ def _lesser_moved(
 
 
 def _enclosed_moved(label: Array, parts: Dict[int, List[Polygon]], changed: Set[int]) -> Set[int]:
-    """Gives districts that lie within another one's outline, where one of both changed, to that one; which change so."""
+    """Gives districts that lie within another one's outline, where one of both changed, to that one; which change
+    so."""
     names = sorted(parts, key=lambda at: float(parts[at][0].bounds[0]))
     boxes = np.array([parts[at][0].bounds for at in names]).reshape(-1, 4)
     moved: Set[int] = set()
@@ -326,7 +328,8 @@ def _neighbour(edges: _Edges, label: Array, rows: Array, at: int) -> Optional[in
 
 
 def _hull(points: Array) -> Polygon:
-    """A simple outline where nothing better is found: the hull of points, or a square millimetre where it has no area."""
+    """A simple outline where nothing better is found: the hull of points, or a square millimetre where it has no
+    area."""
     hull = MultiPoint([tuple(it) for it in points.tolist()]).convex_hull
     return hull if hull.geom_type == "Polygon" else Point(points[0]).buffer(1.0, cap_style=3)
 

@@ -49,7 +49,8 @@ def write_overlay(
     rounds: List[List[List[int]]],
     words: Sequence[str] = (),
 ) -> List[Tuple[Run, List[int], List[int]]]:
-    """Writes a district's rounds; its runs, with these words more, each with the rows of its first parcels and zones."""
+    """Writes a district's rounds; its runs, with these words more, each with the rows of its first parcels and
+    zones."""
     folder.mkdir()
     corners = boxes_of([ring for layer in layers for ring in layer])
     (x0, y0), (x1, y1) = corners[:, :2].min(axis=0) - MARGIN, corners[:, 2:].max(axis=0) + MARGIN

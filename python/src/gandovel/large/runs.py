@@ -66,7 +66,8 @@ def _said(run: Run) -> Said:
 
 
 def _by_engine(runs: Sequence[Run], how: Cutting) -> List[Said]:
-    """The same runs as tasks of `gandovel many`, in a folder beside their files, which other nodes see under its path."""
+    """The same runs as tasks of `gandovel many`, in a folder beside their files, which other nodes see under its
+    path."""
     from ..many.run import tasks_done
     from ..many.tasks import Task
 

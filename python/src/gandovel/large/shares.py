@@ -13,8 +13,8 @@ A_SHARE = 8_192
 def in_shares(work: Callable[[int, int], Any], count: int, rows: int) -> List[Any]:
     """What a call answers for (begin, end) of the shares of 0 .. count - 1, in order.
 
-    `rows` are those of the layer that it is about: beyond what one run of the program takes, shares are worked on side by
-    side; else there is one share, and this process does it.
+    `rows` are those of the layer that it is about: beyond what one run of the program takes, shares are worked on side
+    by side; else there is one share, and this process does it.
     """
     if rows <= MOST_RINGS:
         return [work(0, count)]

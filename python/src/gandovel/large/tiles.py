@@ -1,4 +1,5 @@
-"""Noding of very many sides: tile by tile, by processes forked from this one, so that the work's memory does not grow."""
+"""Noding of very many sides: tile by tile, by processes forked from this one, so that the work's memory does not
+grow."""
 from __future__ import annotations
 
 from typing import Callable, Union

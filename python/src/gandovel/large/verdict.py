@@ -168,8 +168,8 @@ def _write(folder: Path, plan: _Plan) -> List[str]:
 def _with_parts(folder: Path, plan: _Plan, sums: List[str]) -> List[Tuple[str, str]]:
     """Has the program write the outlines of each layer of them that tiles (`part --all`).
 
-    Where a layer does not, the outlines stay as they were written, so that its districts are judged all the same. Answers
-    the checksums of each outline as it stands in its layer, and as its district has it.
+    Where a layer does not, the outlines stay as they were written, so that its districts are judged all the same.
+    Answers the checksums of each outline as it stands in its layer, and as its district has it.
     """
     handed = list(sums)
     for piece in plan.pieces:
@@ -292,8 +292,9 @@ def overlay_of_island(island: Island, parcels: Any, zones: Any) -> Overlaid:
     """The pairs of rows (parcel, zone), from 0, whose interiors have a common point: all of them by the program.
 
     Each district's parcels are overlaid with the whole zones near it, in a rectangle around all of them, which rows of
-    no one fill. So no zone is cut; more zones than a layer has are taken in shares. `parcels` and `zones` are the layers'
-    `LayerFaults`, or None of layers that tile. Where both tile, areas are told of parcels whose zones one run had.
+    no one fill. So no zone is cut; more zones than a layer has are taken in shares. `parcels` and `zones` are the
+    layers' `LayerFaults`, or None of layers that tile. Where both tile, areas are told of parcels whose zones one run
+    had.
     """
     assert island.zones is not None
     districts, rings = districts_of(island, "parcels"), (island.parcels.rings, island.rows_of_zones().rings)

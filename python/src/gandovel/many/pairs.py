@@ -37,7 +37,8 @@ class Overlay:
 
 
 class ZonesOf:
-    """The zones of a city: their rings in mm, boxes and sizes, read once. `rings` is None where they are gone by now."""
+    """The zones of a city: their rings in mm, boxes and sizes, read once. `rings` is None where they are gone by
+    now."""
 
     def __init__(self, row: Row) -> None:
         self.rings = _upright(rings_of(str(row.zones), row.unit))

@@ -34,10 +34,10 @@ DERIVED = ("summary.csv", "summary.json", "faults.gpkg", "pairs.csv")
 class Result:
     """What the program said of a city, and of which files. `output` and `errors` are its words as they were.
 
-    `inputs` has the SHA-256 by path, None of an index that was not there, and empty of a file that was not read; `stamps`
-    has what a change of a file would change, of those that were old enough to tell by it. `seconds` are by the clock, of the program
-    alone; `memory_kb` is the most memory that it had at once, in kB of 1,024 bytes. `records` is how many parcels the
-    layer had, by its index; None where there was no index, or edits were applied.
+    `inputs` has the SHA-256 by path, None of an index that was not there, and empty of a file that was not read;
+    `stamps` has what a change of a file would change, of those that were old enough to tell by it. `seconds` are by the
+    clock, of the program alone; `memory_kb` is the most memory that it had at once, in kB of 1,024 bytes. `records` is
+    how many parcels the layer had, by its index; None where there was no index, or edits were applied.
     """
 
     name: str
@@ -230,7 +230,8 @@ def _read(path: str) -> bytes:
 
 
 def _is_same(path: str, before: Optional[str], stamp: Optional[Sequence[int]]) -> bool:
-    """Whether a file has the stamp that it had, else the checksum, where that is known. OSError where it can't be read."""
+    """Whether a file has the stamp that it had, else the checksum, where that is known. OSError where it can't be
+    read."""
     if stamp is not None and has_stamp(path, stamp):
         return True
     if before == "":

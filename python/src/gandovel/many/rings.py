@@ -1,9 +1,9 @@
 """The rings of districts: each record of a layer of districts as a city of its own.
 
 The program writes them all in one run (`part --all`), where the layer tiles its city. Where it does not, so that its
-districts are judged all the same, each record is copied byte for byte. In another unit a ring's coordinates are those of
-the same millimetres. That the layer which the program judges is the one that was cut, and a district's ring the one that
-was cut out of it, is compared behind the runs (`DistrictLayer.sums`, `Ring.here`).
+districts are judged all the same, each record is copied byte for byte. In another unit a ring's coordinates are those
+of the same millimetres. That the layer which the program judges is the one that was cut, and a district's ring the one
+that was cut out of it, is compared behind the runs (`DistrictLayer.sums`, `Ring.here`).
 """
 from __future__ import annotations
 
@@ -57,7 +57,8 @@ class DistrictLayer:
         """The districts as the program wrote them, in mm, by their records."""
 
     def cut_by(self, program: str, city: str, unit: str, aside: Path) -> None:
-        """Has the program write every district, through a folder that is not there. Where it writes none, nothing changes.
+        """Has the program write every district, through a folder that is not there. Where it writes none, nothing
+        changes.
 
         NoRing where the layer changes meanwhile; OSError where the disk does not take the folder.
         """

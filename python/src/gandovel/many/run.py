@@ -158,7 +158,8 @@ class _Run:
         self.lost: Dict[str, Dict[str, Tuple[str, str]]] = {kind: {} for kind in KINDS}
         self.rings: Dict[str, Ring] = {}
         self.layers: Dict[str, DistrictLayer] = {}
-        """The rings of districts by their names, and the layers of districts by the names of the rows that have them."""
+        """The rings of districts by their names, and the layers of districts by the names of the rows that have
+        them."""
         self.kept: Set[str] = set()
         self.before: Dict[str, Optional[Tuple[int, str, str]]] = {}
         """What results said that are asked for again, so as to be verified: status, output and errors."""
@@ -254,7 +255,8 @@ class _Run:
             self.kept = {task.name for task in tasks if task.name not in numbers}
 
     def do_more(self, engine: Engine, kind: str, tasks: List[Task]) -> None:
-        """The same of what is asked behind the cities. Where it can't be done, their verdicts are told, and then why."""
+        """The same of what is asked behind the cities. Where it can't be done, their verdicts are told, and then
+        why."""
         try:
             self.do(engine, kind, tasks)
         except Refused as why:
@@ -274,7 +276,8 @@ class _Run:
         return verdict.layer
 
     def overlays_of(self, rows: Sequence[Row], threads: int) -> List[Task]:
-        """Writes what districts without zones are overlaid with, where they tile, and a city above has zones that do."""
+        """Writes what districts without zones are overlaid with, where they tile, and a city above has zones that
+        do."""
         known: Dict[str, ZonesOf] = {}
         above = cities_above(rows)
         for row in bottom_of(rows):
@@ -390,7 +393,8 @@ class _Run:
         return {name: it for name, it in table.counts.items() if name not in lacking}, why
 
     def _pairs_of(self, row: Row) -> Optional[Any]:
-        """The pairs of a district, by the records of its parcels and of zones, from 1; None where they are not known."""
+        """The pairs of a district, by the records of its parcels and of zones, from 1; None where they are not
+        known."""
         from .pairs import all_pairs, pairs_in, pairs_of_overlay
 
         if row.zones is not None:
@@ -423,7 +427,8 @@ class _Run:
         return found
 
     def _tell_faults(self, summary: Summary, rows: Sequence[Row], refused: Sequence[Row], layers: Layers) -> None:
-        """Writes the faults of refused cities, where there is one, and counts them. GeoPandas is imported for them alone."""
+        """Writes the faults of refused cities, where there is one, and counts them. GeoPandas is imported for them
+        alone."""
         if not refused:
             return
         from .faults_file import Faults

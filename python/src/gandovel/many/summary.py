@@ -39,8 +39,9 @@ class Verdict:
     """What is known of a city. `verdict` is `tiles`, `refused`, or `none` where there is no result.
 
     Of a city of districts it is what they make up (`Whole`), and may be `open`, too. `code`, `layer` and `text` say why
-    it is refused (docs/cli.md), or why there is no result (docs/many.md). `parcels` is how many tile, `area2` twice the city's area in mm2 (of a check), `pairs` and `split` are an overlay's; each is
-    None where it is not told. `seconds` and `memory_kb` are the program's.
+    it is refused (docs/cli.md), or why there is no result (docs/many.md). `parcels` is how many tile, `area2` twice the
+    city's area in mm2 (of a check), `pairs` and `split` are an overlay's; each is None where it is not told. `seconds`
+    and `memory_kb` are the program's.
     """
 
     name: str
@@ -103,9 +104,11 @@ def not_judged(name: str, why: Tuple[str, str]) -> Verdict:
 
 @dataclass(frozen=True)
 class Layers:
-    """What is known of layers of districts: how many records each has, by its row's name, and districts that are astray.
+    """What is known of layers of districts: how many records each has, by its row's name, and districts that are
+    astray.
 
-    Those were judged in another ring than the record that the layer's verdict is of, as where a file changed in between.
+    Those were judged in another ring than the record that the layer's verdict is of, as where a file changed in
+    between.
     """
 
     records: Mapping[str, int] = field(default_factory=dict)
@@ -261,8 +264,8 @@ class Summary:
 
     Of a city of districts `verdicts` has what these make up. `kept` are the cities that `resume` did not do again, and
     `differing` those that say something else now, where they were verified; `seconds` are the run's by the clock;
-    `gaps`, `overlaps`, `rings` and `crossings` count what `faults.gpkg` has, and `untold` are the refused cities whose faults it
-    lacks, since that task had no result. `unwritten` is why a file of these could not be written.
+    `gaps`, `overlaps`, `rings` and `crossings` count what `faults.gpkg` has, and `untold` are the refused cities whose
+    faults it lacks, since that task had no result. `unwritten` is why a file of these could not be written.
     """
 
     verdicts: List[Verdict]

@@ -21,7 +21,8 @@ WORKER = Path(__file__).with_name("start.py")
 
 @dataclass(frozen=True)
 class Program:
-    """The proved program: its path, what `--version` prints, and its file's SHA-256; what a change of the file changes."""
+    """The proved program: its path, what `--version` prints, and its file's SHA-256; what a change of the file
+    changes."""
 
     path: str
     version: str
@@ -33,7 +34,8 @@ class Program:
 class Task:
     """One process of the program: its arguments, and the files it reads, each with whether it has to be there.
 
-    Of the files in `by_bytes` the checksum is taken however old they are: a run writes them anew where they are damaged.
+    Of the files in `by_bytes` the checksum is taken however old they are: a run writes them anew where they are
+    damaged.
     """
 
     name: str
@@ -51,7 +53,8 @@ class Limits:
 
 
 def find_program() -> Program:
-    """The program that `gandovel` finds. Refused T1 where there is none, it tells no version, or a trial ends wrongly."""
+    """The program that `gandovel` finds. Refused T1 where there is none, it tells no version, or a trial ends
+    wrongly."""
     path = find_tool()
     try:
         ended = subprocess.run(
@@ -74,7 +77,8 @@ def find_program() -> Program:
 
 
 def _try(path: str) -> None:
-    """Asks a program about a square that tiles itself, and about one with a gap. Refused T1 where it says anything else."""
+    """Asks a program about a square that tiles itself, and about one with a gap. Refused T1 where it says anything
+    else."""
     with tempfile.TemporaryDirectory(prefix="gandovel-trial-") as name:
         city, part = Path(name) / "city.shp", Path(name) / "part.shp"
         for place, width in ((city, 10), (part, 9)):

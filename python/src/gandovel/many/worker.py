@@ -115,7 +115,8 @@ def checked(path: str) -> Optional[Checked]:
 
 
 def read_input(path: str, room: int, by_bytes: bool = True) -> Input:
-    """A file as it is: with its checksum, and its bytes where it is no longer than `room`. OSError where it can't be read.
+    """A file as it is: with its checksum, and its bytes where it is no longer than `room`. OSError where it can't be
+    read.
 
     Without `by_bytes` a file that is old is settled: it is told by its stamp, and has no checksum.
     """
@@ -576,7 +577,8 @@ def _beside(tasks: Sequence[Dict[str, Any]]) -> Tuple[int, int]:
 def _end_orphans(program: Optional[int]) -> None:
     """Kills the program of a task whose process is gone: it is this process's child by now.
 
-    A process that was killed before it could say which program it had started leaves one that is known to the system alone.
+    A process that was killed before it could say which program it had started leaves one that is known to the system
+    alone.
     """
     for orphan in {*_children(), *(() if program is None else (program,))}:
         try:
@@ -623,7 +625,8 @@ def tasks_of(path: str) -> List[Dict[str, Any]]:
 
 
 def lists_taken(folder: str, name: str) -> Iterator[str]:
-    """The lists of a folder that nobody else takes, one by one; first those that this name took when it was started before.
+    """The lists of a folder that nobody else takes, one by one; first those that this name took when it was started
+    before.
 
     A list that was done to its end gets a mark, which tells how far all are.
     """

@@ -82,8 +82,6 @@ def words_of(fault: RefusedEdit) -> str:
     """A refusal of an edit in words."""
     text = _WORDS.get(fault.code, "The edit does not fit.")
     numbers = [*fault.text.split(), "", ""]
-    if fault.code == "E12" and numbers[0] == "0":
-        return "The city's border bends at this corner, so that it can't be taken out."
     return text.format(*numbers)
 
 

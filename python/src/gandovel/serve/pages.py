@@ -14,7 +14,8 @@ _PAGE = """<!doctype html>
 <p><a href="/">Register</a> · <a href="/collections?f=html">Collections</a> · <a href="/api?f=html">API</a></p>
 <h1>{{ title }}</h1>
 {% if text %}<p>{{ text }}</p>{% endif %}
-{% for link in links %}<p><a href="{{ link.href }}">{{ link.rel }}: {{ link.title or link.href }}</a> ({{ link.type }})</p>{% endfor %}
+{% for link in links %}<p><a href="{{ link.href }}">{{ link.rel }}: {{ link.title or link.href }}</a>
+({{ link.type }})</p>{% endfor %}
 {% if rows %}<table><thead><tr>{% for name in names %}<th>{{ name }}</th>{% endfor %}</tr></thead><tbody>
 {% for row in rows %}<tr>{% for name in names %}<td>{{ row[name] }}</td>{% endfor %}</tr>
 {% endfor %}</tbody></table>{% endif %}

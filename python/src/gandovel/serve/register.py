@@ -44,7 +44,8 @@ IN_USE = 20
 PACES = (0.0, 0.5, 1.0, 2.0, 5.0)
 """Seconds between two tries to start a session anew; the last one for all further ones."""
 REST = 10.0
-"""Seconds that no edit is taken behind one that the disk did not take: readers have no session that begins each moment."""
+"""Seconds that no edit is taken behind one that the disk did not take: readers have no session that begins each
+moment."""
 
 
 AskedRow = Tuple[int, "asyncio.Future[List[bytes]]"]
@@ -52,7 +53,8 @@ AskedRow = Tuple[int, "asyncio.Future[List[bytes]]"]
 Told = Tuple[Accepted, bytes]
 """What the session answered to an edit: as it is read, and its line."""
 Followed = Tuple[Entry, "asyncio.Future[List[bytes]]", Optional[Told], List[AskedRow]]
-"""An edit that went to the follower: the answer to come, what the session said of it, and the rows that were asked for."""
+"""An edit that went to the follower: the answer to come, what the session said of it, and the rows that were asked
+for."""
 AHEAD = 64
 """How many edits are sent to the follower before the first of them is answered."""
 MOST_UNPUBLISHED = 256
@@ -60,7 +62,8 @@ MOST_UNPUBLISHED = 256
 
 
 class Fate:
-    """An edit that went to the session: `after` so many records that were known then; its entry's number comes later."""
+    """An edit that went to the session: `after` so many records that were known then; its entry's number comes
+    later."""
 
     def __init__(self, asked: Asked, after: int) -> None:
         self.asked, self.after = asked, after
@@ -458,7 +461,8 @@ class Register:
                 self._publish(entry.with_ids(made.out, made.new), await _rows_of(rows))
 
     def _send_ahead(self, sent: Deque[Followed]) -> bool:
-        """Sends the next edits to the follower, each with the question for its rows, where the session has told their ids.
+        """Sends the next edits to the follower, each with the question for its rows, where the session has told their
+        ids.
 
         Behind one whose ids are not known nothing is sent. Whether there is an answer to wait for.
         """
@@ -559,7 +563,8 @@ class Register:
         raise NotServing("restarting", "the session ends again and again: look at /health")
 
     async def overlaps(self) -> Overlaps:
-        """Which parcels and zones overlap, with all edits that were answered before; shared by those who ask at once."""
+        """Which parcels and zones overlap, with all edits that were answered before; shared by those who ask at
+        once."""
         if self.layer.zones is None:
             raise NoZones("no zones", "the layer was prepared without zones")
         for entries, task in list(self._overlaps.items()):
@@ -609,7 +614,8 @@ class Register:
 
     @property
     def synchronised(self) -> int:
-        """How many synchronisations of the journal answers told of since the server began: there were as many or more."""
+        """How many synchronisations of the journal answers told of since the server began: there were as many or
+        more."""
         return self._synchronised + (self._tail.grown if self._tail is not None else 0)
 
     def memory(self) -> Dict[str, int]:

@@ -22,7 +22,8 @@ class Tail:
         """Reads what is there. Raises `JournalRefused` as `read_journal` does."""
         self.records: List[JournalRecord] = []
         self.grown = 0
-        """How often it had to be read on for an edit that was answered: each time stands for a synchronisation of its own."""
+        """How often it had to be read on for an edit that was answered: each time stands for a synchronisation of its
+        own."""
         self._chain = Chain()
         try:
             self._file = os.open(path, os.O_RDONLY | os.O_CLOEXEC)
@@ -35,7 +36,8 @@ class Tail:
             raise
 
     def read_to(self, number: int) -> None:
-        """Reads on until there is a record with this number, which was answered. Raises `BadAnswer`, `JournalRefused`."""
+        """Reads on until there is a record with this number, which was answered. Raises `BadAnswer`,
+        `JournalRefused`."""
         if len(self.records) < number:
             self._read_on()
             self.grown += 1

@@ -18,9 +18,12 @@ triangles-requires c =
     let lf : FitsSigned w64 c.args.low = c.ranges.low in
     let rise_is = simp to_z-of_z at c.above-height.ensures in
     let crossed = c.are_crossed.ensures.0 c.if-are_crossed.true in
-    let f : c.abs_diff-first_side.result ≡ abs_diff c.at_level-first.result.one c.at_level-first.result.other = c.abs_diff-first_side.ensures in
-    let g : c.abs_diff-second_side.result ≡ abs_diff c.at_level-second.result.one c.at_level-second.result.other = c.abs_diff-second_side.ensures in
-    let sides : abs_diff c.at_level-first.result.one c.at_level-first.result.other + abs_diff c.at_level-second.result.one c.at_level-second.result.other
+    let f : c.abs_diff-first_side.result ≡ abs_diff c.at_level-first.result.one c.at_level-first.result.other =
+    c.abs_diff-first_side.ensures in
+    let g : c.abs_diff-second_side.result ≡ abs_diff c.at_level-second.result.one c.at_level-second.result.other =
+    c.abs_diff-second_side.ensures in
+    let sides : abs_diff c.at_level-first.result.one c.at_level-first.result.other
+    + abs_diff c.at_level-second.result.one c.at_level-second.result.other
     ≡ c.parting-apart.result * c.above-height.result =
     sides_by_parting c.above-height.result
     (gap (edge_of c.args.one) (edge_of c.args.other) c.args.high -ℤ gap (edge_of c.args.one) (edge_of c.args.other) c.args.low)
@@ -30,13 +33,15 @@ triangles-requires c =
     (sym rise_is) (sym c.parting-apart.ensures.value)
     (crossed_sides c.at_level-first.result.one c.at_level-first.result.other c.at_level-second.result.one c.at_level-second.result.other
     _ _ (simp to_z-of_z at c.at_level-first.ensures.value) (simp to_z-of_z at c.at_level-second.ensures.value) crossed) in
-    let some = sides_some c.at_level-first.result.one c.at_level-first.result.other c.at_level-second.result.one c.at_level-second.result.other crossed in
+    let some = sides_some c.at_level-first.result.one c.at_level-first.result.other c.at_level-second.result.one
+    c.at_level-second.result.other crossed in
     let bound = sides_bound limit c.rises-both.result
     c.at_level-first.result.one c.at_level-first.result.other c.at_level-second.result.one c.at_level-second.result.other
     (place_bound (2 * limit) c.at_level-first.result.one c.rises-both.result _ c.at_level-first.ensures.one c.rises-both.ensures.value)
     (place_bound (2 * limit) c.at_level-first.result.other c.rises-both.result _ c.at_level-first.ensures.other c.rises-both.ensures.value)
     (place_bound (2 * limit) c.at_level-second.result.one c.rises-both.result _ c.at_level-second.ensures.one c.rises-both.ensures.value)
-    (place_bound (2 * limit) c.at_level-second.result.other c.rises-both.result _ c.at_level-second.ensures.other c.rises-both.ensures.value) in
+    (place_bound (2 * limit) c.at_level-second.result.other c.rises-both.result _ c.at_level-second.ensures.other
+    c.rises-both.ensures.value) in
     record {
       height = omega (
         arith,
@@ -57,14 +62,17 @@ triangles-requires c =
 
 pub trapezoid-requires : goal.trapezoid-requires
 trapezoid-requires c =
-    let f : c.abs_diff-first_side.result ≡ abs_diff c.at_level-first.result.one c.at_level-first.result.other = c.abs_diff-first_side.ensures in
-    let g : c.abs_diff-second_side.result ≡ abs_diff c.at_level-second.result.one c.at_level-second.result.other = c.abs_diff-second_side.ensures in
+    let f : c.abs_diff-first_side.result ≡ abs_diff c.at_level-first.result.one c.at_level-first.result.other =
+    c.abs_diff-first_side.ensures in
+    let g : c.abs_diff-second_side.result ≡ abs_diff c.at_level-second.result.one c.at_level-second.result.other =
+    c.abs_diff-second_side.ensures in
     let bound = sides_bound limit c.rises-both.result
     c.at_level-first.result.one c.at_level-first.result.other c.at_level-second.result.one c.at_level-second.result.other
     (place_bound (2 * limit) c.at_level-first.result.one c.rises-both.result _ c.at_level-first.ensures.one c.rises-both.ensures.value)
     (place_bound (2 * limit) c.at_level-first.result.other c.rises-both.result _ c.at_level-first.ensures.other c.rises-both.ensures.value)
     (place_bound (2 * limit) c.at_level-second.result.one c.rises-both.result _ c.at_level-second.ensures.one c.rises-both.ensures.value)
-    (place_bound (2 * limit) c.at_level-second.result.other c.rises-both.result _ c.at_level-second.ensures.other c.rises-both.ensures.value) in
+    (place_bound (2 * limit) c.at_level-second.result.other c.rises-both.result _ c.at_level-second.ensures.other
+    c.rises-both.ensures.value) in
     record {
       height = omega (
         arith,
@@ -86,14 +94,18 @@ returns-then-are_crossed c =
     let lf : FitsSigned w64 c.args.low = c.ranges.low in
     let rise_is = simp to_z-of_z at c.above-height.ensures in
     let crossed = c.are_crossed.ensures.0 c.if-are_crossed.true in
-    let f : c.abs_diff-first_side.result ≡ abs_diff c.at_level-first.result.one c.at_level-first.result.other = c.abs_diff-first_side.ensures in
-    let g : c.abs_diff-second_side.result ≡ abs_diff c.at_level-second.result.one c.at_level-second.result.other = c.abs_diff-second_side.ensures in
-    let some = sides_some c.at_level-first.result.one c.at_level-first.result.other c.at_level-second.result.one c.at_level-second.result.other crossed in
+    let f : c.abs_diff-first_side.result ≡ abs_diff c.at_level-first.result.one c.at_level-first.result.other =
+    c.abs_diff-first_side.ensures in
+    let g : c.abs_diff-second_side.result ≡ abs_diff c.at_level-second.result.one c.at_level-second.result.other =
+    c.abs_diff-second_side.ensures in
+    let some = sides_some c.at_level-first.result.one c.at_level-first.result.other c.at_level-second.result.one
+    c.at_level-second.result.other crossed in
     record {
       counted = area_counted (edge_of c.args.one) (edge_of c.args.other) c.triangles.result.parts c.above-height.result c.rises-both.result
           c.triangles.result.lost c.args.low c.args.high c.requires.low_is c.requires.high_is c.requires.order
           rise_is c.rises-both.ensures.value
-          (triangles_counted c.at_level-first.result.one c.at_level-first.result.other c.at_level-second.result.one c.at_level-second.result.other
+          (triangles_counted c.at_level-first.result.one c.at_level-first.result.other c.at_level-second.result.one
+          c.at_level-second.result.other
           c.above-height.result c.rises-both.result c.triangles.result.parts c.triangles.result.lost
           (gap (edge_of c.args.one) (edge_of c.args.other) c.args.low) (gap (edge_of c.args.one) (edge_of c.args.other) c.args.high)
           (simp to_z-of_z at c.at_level-first.ensures.value) (simp to_z-of_z at c.at_level-second.ensures.value) crossed
@@ -108,13 +120,16 @@ returns-else-are_crossed c =
     let hf : FitsSigned w64 c.args.high = c.ranges.high in
     let lf : FitsSigned w64 c.args.low = c.ranges.low in
     let rise_is = simp to_z-of_z at c.above-height.ensures in
-    let f : c.abs_diff-first_side.result ≡ abs_diff c.at_level-first.result.one c.at_level-first.result.other = c.abs_diff-first_side.ensures in
-    let g : c.abs_diff-second_side.result ≡ abs_diff c.at_level-second.result.one c.at_level-second.result.other = c.abs_diff-second_side.ensures in
+    let f : c.abs_diff-first_side.result ≡ abs_diff c.at_level-first.result.one c.at_level-first.result.other =
+    c.abs_diff-first_side.ensures in
+    let g : c.abs_diff-second_side.result ≡ abs_diff c.at_level-second.result.one c.at_level-second.result.other =
+    c.abs_diff-second_side.ensures in
     record {
       counted = area_counted (edge_of c.args.one) (edge_of c.args.other) c.trapezoid.result.parts c.above-height.result c.rises-both.result
           c.trapezoid.result.lost c.args.low c.args.high c.requires.low_is c.requires.high_is c.requires.order
           rise_is c.rises-both.ensures.value
-          (trapezoid_counted c.at_level-first.result.one c.at_level-first.result.other c.at_level-second.result.one c.at_level-second.result.other
+          (trapezoid_counted c.at_level-first.result.one c.at_level-first.result.other c.at_level-second.result.one
+          c.at_level-second.result.other
           c.above-height.result c.rises-both.result c.trapezoid.result.parts c.trapezoid.result.lost
           (gap (edge_of c.args.one) (edge_of c.args.other) c.args.low) (gap (edge_of c.args.one) (edge_of c.args.other) c.args.high)
           (simp to_z-of_z at c.at_level-first.ensures.value) (simp to_z-of_z at c.at_level-second.ensures.value)

@@ -15,7 +15,8 @@ returns c =
     let i = min_within e c.args.one.high.y_in_range c.args.other.high.y_in_range in
     let r : FitsSigned w64 c.min.result = omega (arith, ints, i.low, i.high) in
     record {
-      value = simp to_z-of_z (e ∙ sym (highest_of c.args.one.is_up c.args.other.is_up c.args.one.low c.args.one.high c.args.other.low c.args.other.high
+      value = simp to_z-of_z (e
+          ∙ sym (highest_of c.args.one.is_up c.args.other.is_up c.args.one.low c.args.one.high c.args.other.low c.args.other.high
           c.args.one.rises c.args.other.rises));
       one = simp to_z-of_z (min_of e).0;
       other = simp to_z-of_z (min_of e).1;

@@ -24,7 +24,8 @@ returns c =
     record {
       value = rw (f, g) (gap_natural c.args.one.is_up c.args.other.is_up c.args.one.low c.args.one.high c.args.other.low c.args.other.high
           c.args.y (pos limit) c.place-first.result c.place-second.result c.rise-first_rise.result c.rise-second_rise.result
-          c.args.one.rises c.args.other.rises (simp to_z-of_z at c.place-first.ensures.value) (simp to_z-of_z at c.place-second.ensures.value)
+          c.args.one.rises c.args.other.rises (simp to_z-of_z at c.place-first.ensures.value)
+          (simp to_z-of_z at c.place-second.ensures.value)
           c.rise-first_rise.ensures.value c.rise-second_rise.ensures.value);
       one = rw f (place_within (2 * limit) c.place-first.result c.rise-first_rise.result c.rise-second_rise.result _ m (sym r));
       other = rw g (other_within (2 * limit) c.place-second.result c.rise-first_rise.result c.rise-second_rise.result _ n (sym r));

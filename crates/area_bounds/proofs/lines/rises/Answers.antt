@@ -15,5 +15,7 @@ returns c =
           c.rise-first.result c.rise-second.result c.args.one.rises c.args.other.rises
           c.rise-first.ensures.value c.rise-second.ensures.value);
       some = rw (f, g) (product_some c.rise-first.result c.rise-second.result c.rise-first.ensures.some c.rise-second.ensures.some);
-      bound = rw (f, g) (mul-le c.rise-first.result c.rise-second.result (2 * limit) (2 * limit) c.rise-first.ensures.bound c.rise-second.ensures.bound);
+      bound =
+          rw (f, g) (mul-le c.rise-first.result c.rise-second.result (2 * limit) (2 * limit) c.rise-first.ensures.bound
+          c.rise-second.ensures.bound);
     }

@@ -9,7 +9,8 @@ use Rattle.area_bounds.proofs.sums.common_parts.Goals as goal
 
 pub loop-to-init : goal.loop-to-init
 loop-to-init c = record {
-  so_far = leads_start (λ e. sum_shares (between e) (edges c.args.other.now)) c.in-Some.first.now c.args.one.now c.in-Some.rest.now c.in-Some.ensures.cases.0;
+  so_far = leads_start (λ e. sum_shares (between e) (edges c.args.other.now)) c.in-Some.first.now c.args.one.now c.in-Some.rest.now
+      c.in-Some.ensures.cases.0;
   bound = record { low = omega (arith, ints); high = omega (arith, ints) };
   lost = omega arith;
 }
@@ -25,7 +26,9 @@ loop-to-preserved c =
     let e : c.plus-sum.result.low ≡ c.loop-to.sum.low +ℤ c.row_parts-row.result.low = omega (arith, ints, c.plus-sum.ensures.low) in
     let f : c.plus-sum.result.lost ≡ c.loop-to.sum.lost + c.row_parts-row.result.lost = c.plus-sum.ensures.lost in
     record {
-      so_far = rw (e, f) (leads_on (λ e. sum_shares (between e) (edges c.args.other.now)) c.loop-to.from c.to-item.result c.in-Some.first.now c.in-Some.rest.now
+      so_far =
+          rw (e, f) (leads_on (λ e. sum_shares (between e) (edges c.args.other.now)) c.loop-to.from c.to-item.result c.in-Some.first.now
+          c.in-Some.rest.now
           c.loop-to.to-index c.loop-to.sum.low c.row_parts-row.result.low c.loop-to.sum.lost c.row_parts-row.result.lost
           (sum_shares (λ e. sum_shares (between e) (edges c.args.other.now)) (edges c.args.one.now))
           c.loop-to-test.true c.to-item.is c.loop-to.invariant.so_far c.row_parts-row.ensures.counted);
@@ -59,5 +62,6 @@ returns-clause-bound c = record {
 
 pub returns-clause-lost : goal.returns-clause-lost
 returns-clause-lost c =
-    let n : length c.args.one.now ≡ c.loop-to.to-index + 1 = omega (arith, c.in-Some.ensures.cases.1, c.loop-to-test.false, c.loop-to.auto.to-index-end) in
+    let n : length c.args.one.now ≡ c.loop-to.to-index + 1 =
+    omega (arith, c.in-Some.ensures.cases.1, c.loop-to-test.false, c.loop-to.auto.to-index-end) in
     rw n (omega (arith, c.plus.ensures.lost, c.loop-to.invariant.lost, c.row_parts.ensures.lost))

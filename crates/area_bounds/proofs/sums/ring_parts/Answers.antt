@@ -55,5 +55,12 @@ returns-clause-counted c =
 pub returns-clause-bound : goal.returns-clause-bound
 returns-clause-bound c = record {
   low = omega (arith, ints, c.in-Some.ensures.cases.1, c.plus.ensures.low, c.loop-to.invariant.bound.low, c.edge_parts-2.ensures.bound.low);
-  high = omega (arith, ints, c.in-Some.ensures.cases.1, c.plus.ensures.low, c.loop-to.invariant.bound.high, c.edge_parts-2.ensures.bound.high);
+  high = omega (
+    arith,
+    ints,
+    c.in-Some.ensures.cases.1,
+    c.plus.ensures.low,
+    c.loop-to.invariant.bound.high,
+    c.edge_parts-2.ensures.bound.high,
+  );
 }

@@ -13,7 +13,8 @@ returns-in-None-clause-counted c =
 
 pub returns-in-Some-clause-counted : goal.returns-in-Some-clause-counted
 returns-in-Some-clause-counted c =
-    let P : Edge → Type 0 = λ e. IsCounted c.ring_parts.result.low c.ring_parts.result.lost (sum_shares (between e) (edges c.args.ring.now)) in
+    let P : Edge → Type 0 =
+    λ e. IsCounted c.ring_parts.result.low c.ring_parts.result.lost (sum_shares (between e) (edges c.args.ring.now)) in
     subst P c.in-Some.ensures c.ring_parts.ensures.counted
 
 pub returns-in-Some-clause-bound : goal.returns-in-Some-clause-bound

@@ -59,12 +59,12 @@ returns-clause-reads g c = λ corners h.
     let one : c.in_ok-rings.rings.items ≡ c.in-Some.ring ∷ [] = search rules in
     let same = same_city _ _ _ (numbered c.in-Some.ring.number c.in-Some.ring.corners) (ap rings_of one)
     (λ rings k. c.in_ok-rings.ensures.reads rings (rw (c.as_slice.ensures.value, c.index_bytes.ensures.bytes) k)) corners h in
-    c.told_of_city.ensures ∙ told_city_memory corners _ h.is_city (rw (← same) c.in-Err.ensures.fault)
+    c.from.ensures ∙ told_city_memory corners _ h.is_city (rw (← same) c.in-Err.ensures.fault)
 
 pub returns-clause-refuses : goal.returns-clause-refuses
 returns-clause-refuses g c = λ fault h.
     let one : c.in_ok-rings.rings.items ≡ c.in-Some.ring ∷ [] = search rules in
-    rw c.told_of_city.ensures (city_refused _ _ _ (numbered c.in-Some.ring.number c.in-Some.ring.corners)
+    rw c.from.ensures (city_refused _ _ _ (numbered c.in-Some.ring.number c.in-Some.ring.corners)
     (Tells (told_of_city c.in-Err.fault)) (ap rings_of one)
     (λ rings k. c.in_ok-rings.ensures.reads rings (rw (c.as_slice.ensures.value, c.index_bytes.ensures.bytes) k))
     (λ first k. c.in_ok-rings.ensures.refuses first (rw (c.as_slice.ensures.value, c.index_bytes.ensures.bytes) k))

@@ -29,4 +29,5 @@ loop-told-preserved g c =
 
 pub returns-clause-said : goal.returns-clause-said
 returns-clause-said g c = λ none.
-    all_said _ _ _ _ _ _ _ (rw (drop_all c.loop-told.told-index c.args.edits.now c.loop-told-test.false) at (c.loop-told.invariant.said none))
+    all_said _ _ _ _ _ _ _ (rw (drop_all c.loop-told.told-index c.args.edits.now c.loop-told-test.false)
+    at (c.loop-told.invariant.said none))

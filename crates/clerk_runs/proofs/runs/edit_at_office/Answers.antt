@@ -1,9 +1,17 @@
 use Rattle.std.proofs.Common.{◌≡◌, inr, ◌∙◌, ap, arith, map, length, Bor}
+use denote.Param.Send.{sendable}
 use Rattle.desk_lock.specs.Offices.{OfficeId, fresh_cards, origin_of}
 use Rattle.geo_exact.proofs.PassedOn.{passed_as}
+use Rattle.clerk_runs.proofs.Crossing.{office_sync}
 use Rattle.clerk_runs.proofs.EachTold.{length_fresh, made_known, origin_empty}
 use Rattle.clerk_runs.proofs.Windows.{journal_seen}
 use Rattle.clerk_runs.proofs.runs.edit_at_office.Goals as goal
+
+pub do_all-requires-sync-C : goal.do_all-requires-sync-C
+do_all-requires-sync-C g c κs within =
+    let sync = c.type_bounds.sync-H in
+    let frees = c.type_bounds.frees-H-Allocator in
+    search (office_sync, sendable) depth 20
 
 pub jobs_of-requires : goal.jobs_of-requires
 jobs_of-requires g c =
@@ -29,8 +37,8 @@ returns-clause-made g c =
     c.in_ok-jobs.ensures.edits c.in_ok-cards.ensures.lines c.in_ok-cards.ensures.none_refused (rw cards at c.in_ok-sheet.ensures.sheet)
     c.use_invariant.ensures.lawful c.use_invariant.ensures.replays
 
-pub places_of-requires-clause-has_seen : goal.places_of-requires-clause-has_seen
-places_of-requires-clause-has_seen g c = λ published.
+pub locate_all-requires-clause-has_seen : goal.locate_all-requires-clause-has_seen
+locate_all-requires-clause-has_seen g c = λ published.
     let office = g.J.Naming-1.office in
     let clerks = c.args.clerks.items in
     let number : office.clerks ≡ length clerks = ap (λ (o : OfficeId (Bor g.row.H.Denot)). o.clerks) c.requires.office in

@@ -10,4 +10,5 @@ returns-clause-few g c =
     let rows = c.args.fabric.now.now.rows in
     let P = λ (row : NumberedRing). length row.corners ≤ RING_CORNERS in
     subst (λ (corners : List Corner). length corners ≤ RING_CORNERS) (sym c.in_ok-corners.ensures.cases)
-    (All-contains P rows (numbered c.args.id c.in-Some.ring.now.corners) (All-from_recursion P rows c.requires.within.each) c.in-Some.ensures)
+    (All-contains P rows (numbered c.args.id c.in-Some.ring.now.corners) (All-from_recursion P rows c.requires.within.each)
+    c.in-Some.ensures)

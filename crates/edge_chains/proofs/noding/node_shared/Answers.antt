@@ -11,7 +11,8 @@ joined-requires g c =
     let rings = c.args.rings.now in
     let slices = c.in_ok-slices.slices.items in
     let covers : length rings ≤ length slices * size =
-    rw (sym c.in_ok-slices.slices.ok.0 ∙ c.in_ok-slices.ensures.len) (div_ceil_times (length rings) size (omega (arith, c.max-size.ensures))).0 in
+    rw (sym c.in_ok-slices.slices.ok.0 ∙ c.in_ok-slices.ensures.len)
+    (div_ceil_times (length rings) size (omega (arith, c.max-size.ensures))).0 in
     of_slices (λ slice result. IfOk result (λ noded. AllZip (λ ring out. IsNoded ring c.args.blocks.now out) slice noded.items))
     size rings slices covers
     (λ n d l. let given = (c.in_ok-slices.ensures.each n d l).1 in

@@ -12,7 +12,7 @@ use Rattle.fabric_core.proofs.rows.RowGaps.{short_rings, few_corners}
 use Rattle.fabric_core.proofs.loads.RingChecks.{simple_rows}
 use Rattle.geo_exact.proofs.PassedOn.{passed_if}
 use Rattle.fabric_core.proofs.loads.Loaded.{checked_from}
-use Rattle.fabric_core.proofs.loads.LoadRefusals.{tells_too_many}
+use Rattle.fabric_core.proofs.loads.LoadRefusals.{tells_too_many, told_of_rings}
 use Rattle.fabric_core.proofs.all_faults.without_fault.Goals as goal
 
 pub checked-requires-clause-short : goal.checked-requires-clause-short
@@ -57,8 +57,9 @@ returns-in_err-rings-clause-faults g c =
     passed_if c.from_residual.result c.in_err-rings.field-0.0
     (λ refusal. IsTold c.args.asked (numbered_rows ids rings) refined refusal ⊎ IsOutOfMemory refusal) c.from_residual.ensures.1
     (elim c.in_err-rings.ensures.err [
-      | inl h ↦ inl (subst (λ xs. IsToldOfRings c.args.asked (numbered_rows xs rings) c.in_err-rings.field-0.0) c.deref-3.ensures.value h
-          refined within rise)
+      | inl h ↦ inl (told_of_rings c.args.asked (numbered_rows ids rings) refined c.in_err-rings.field-0.0
+          (subst (λ xs. IsToldOfRings c.args.asked (numbered_rows xs rings) c.in_err-rings.field-0.0) c.deref-3.ensures.value h)
+          within rise)
       | inr e ↦ inr e
     ])
 
@@ -84,7 +85,8 @@ returns-in_err-check_nets-clause-faults g c =
 
 pub returns-clause-checked : goal.returns-clause-checked
 returns-clause-checked g c =
-    checked_from c.args.refined.numbers.items c.args.refined.numbers.items c.args.refined.rings.items c.deref.result.now c.deref-2.result.now
+    checked_from c.args.refined.numbers.items c.args.refined.numbers.items c.args.refined.rings.items c.deref.result.now
+    c.deref-2.result.now
     c.in_ok-rings.rings.items c.deref-4.result.now c.as_slice.result.now c.args.refined.city c.args.refined.refined
     c.deref.ensures.value c.deref-2.ensures.value c.in_default.ensures c.in_ok-rings.ensures.ok c.deref-4.ensures.value c.as_slice.ensures
     c.in_ok-check_nets.ensures.ok refl c.requires.numbered c.requires.rising c.requires.few c.requires.city

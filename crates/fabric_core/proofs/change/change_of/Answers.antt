@@ -48,7 +48,8 @@ returns-in-Split-clause-memory g c =
 
 pub returns-in-Merge-clause-memory : goal.returns-in-Merge-clause-memory
 returns-in-Merge-clause-memory g c =
-    subst (λ edit. IsErrOf c.merge_change.result NoMemory → AsksMemory (state_of c.args.tiled.now) edit) (sym c.in-Merge.is) c.merge_change.ensures.memory
+    subst (λ edit. IsErrOf c.merge_change.result NoMemory → AsksMemory (state_of c.args.tiled.now) edit) (sym c.in-Merge.is)
+    c.merge_change.ensures.memory
 
 pub returns-in-Move-clause-memory : goal.returns-in-Move-clause-memory
 returns-in-Move-clause-memory g c =
@@ -59,8 +60,10 @@ returns-in-Move-clause-memory g c =
 
 pub returns-in-Insert-clause-memory : goal.returns-in-Insert-clause-memory
 returns-in-Insert-clause-memory g c =
-    subst (λ edit. IsErrOf c.insert_change.result NoMemory → AsksMemory (state_of c.args.tiled.now) edit) (sym c.in-Insert.is) (λ none. tt)
+    subst (λ edit. IsErrOf c.insert_change.result NoMemory → AsksMemory (state_of c.args.tiled.now) edit) (sym c.in-Insert.is)
+    c.insert_change.ensures.memory
 
 pub returns-in-Straighten-clause-memory : goal.returns-in-Straighten-clause-memory
 returns-in-Straighten-clause-memory g c =
-    subst (λ edit. IsErrOf c.straighten_change.result NoMemory → AsksMemory (state_of c.args.tiled.now) edit) (sym c.in-Straighten.is) (λ none. tt)
+    subst (λ edit. IsErrOf c.straighten_change.result NoMemory → AsksMemory (state_of c.args.tiled.now) edit)
+    (sym c.in-Straighten.is) c.straighten_change.ensures.memory

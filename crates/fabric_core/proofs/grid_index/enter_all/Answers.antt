@@ -40,7 +40,8 @@ loop-shape-preserved g c =
     let key = c.in_ok-key.key in record {
       clipped =
           one_clipped numbers (corners_of_shapes c.args.shapes.items) (corners_of_shapes c.loop-shape.shape-iterator.rest.items)
-          (corners_of_shapes c.next.new.self.rest.items) (rows_of_keyed old) (rows_of_keyed c.push.new.self.parcels) c.loop-shape.parcels.next
+          (corners_of_shapes c.next.new.self.rest.items) (rows_of_keyed old) (rows_of_keyed c.push.new.self.parcels)
+          c.loop-shape.parcels.next
           c.push.new.self.next (length old) (length c.push.new.self.parcels) c.from.result c.in-Some.shape.ring.corners
           c.requires.rising (ap corners_of_shapes c.in-Some.ensures.steps.0)
           (c.from.ensures ∙ ap (λ k. get_or numbers k 0) c.len-in-loop-shape.ensures)

@@ -1,7 +1,6 @@
 use Rattle.std.proofs.Common.{rules, ◌≡◌, ◌≢◌, ◌+◌, inl, refl, sym, ◌∙◌, arith, [], drop}
-use Rattle.fabric_core.specs.declared.all_faults.Asked.{Asked}
 use Rattle.fabric_core.specs.own.Lists.{numbered_rows}
-use Rattle.fabric_core.proofs.loads.LoadRefusals.{tells_first_ring, tells_all_rings}
+use Rattle.fabric_core.proofs.loads.LoadRefusals.{asked_apart, tells_first_ring, tells_all_rings}
 use Rattle.fabric_core.proofs.loads.ToldRings.{none_looked_at, nil_of_no_length, one_kept, one_told, all_kept, all_told, first_told, headed}
 use Rattle.fabric_core.proofs.rings.checked.Goals as goal
 
@@ -22,10 +21,6 @@ loop-corners-preserved-in-Continue-branch-2 g c =
       none_told = c.loop-corners.invariant.none_told;
     })
 
--- what is asked for is one of both
-apart : Asked.First ≡ Asked.All → ⊥
-apart e = cc
-
 pub loop-corners-preserved : goal.loop-corners-preserved
 loop-corners-preserved g c =
     rw c.in_ok-push-in-All.ensures.items (record {
@@ -40,7 +35,7 @@ loop-corners-preserved g c =
             c.loop-corners.checked.ok.0,
             c.loop-corners.faults.ok.0,
           )) refl c.in-Err.ensures.err;
-      none_told = λ first. absurd (apart (sym first ∙ c.in-All.is));
+      none_told = λ first. absurd (asked_apart (sym first ∙ c.in-All.is));
     })
 
 pub returns-in-First-clause-err : goal.returns-in-First-clause-err

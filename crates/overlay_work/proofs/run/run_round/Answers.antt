@@ -1,3 +1,4 @@
+use denote.Param.Send.{sendable}
 use Rattle.std.proofs.Common.{inl, refl, sym, ap, subst, ◌∙◌, length}
 use Rattle.std.specs.List.{AllZip}
 use Rattle.job_threads.specs.Jobs.{IsLeastRefused}
@@ -6,7 +7,14 @@ use Rattle.overlay_work.specs.Faults.{IsRunFault}
 use Rattle.overlay_work.proofs.Places.{err_more, err_both}
 use Rattle.overlay_work.proofs.Workers.{all_worked, all_passed, hands_stay, as_many_stay, all_go_on, all_stop}
 use Rattle.overlay_work.proofs.Workers.{all_stand_still, threads_had, least_stays}
+use Rattle.overlay_work.proofs.Crossing.{hand_send}
 use Rattle.overlay_work.proofs.run.run_round.Goals as goal
+
+pub do_all-requires-send-J : goal.do_all-requires-send-J
+do_all-requires-send-J g c κs within =
+    let sync = c.type_bounds.sync-H in
+    let frees = c.type_bounds.frees-H-Allocator in
+    search (hand_send, sendable) depth 20
 
 pub returns-in-Some-clause-back : goal.returns-in-Some-clause-back
 returns-in-Some-clause-back g c =

@@ -18,11 +18,13 @@ checked_text-requires-clause-short g c =
 
 pub returns-in_err-inputs-clause-failed : goal.returns-in_err-inputs-clause-failed
 returns-in_err-inputs-clause-failed g c = λ h.
-    absurd (no_output _ c.in_err-inputs.field-0.0 c.in_err-inputs.ensures.fault (passed_is _ _ _ c.from_residual.ensures.1 h))
+    absurd (no_output (parcel_run_of c.args.files.now) c.in_err-inputs.field-0.0 c.in_err-inputs.ensures.fault
+    (passed_is _ _ _ c.from_residual.ensures.1 h))
 
 pub returns-in_err-inputs-clause-output : goal.returns-in_err-inputs-clause-output
 returns-in_err-inputs-clause-output g c = λ h.
-    absurd (no_output _ c.in_err-inputs.field-0.0 c.in_err-inputs.ensures.fault (passed_is _ _ _ c.from_residual.ensures.1 h))
+    absurd (no_output (parcel_run_of c.args.files.now) c.in_err-inputs.field-0.0 c.in_err-inputs.ensures.fault
+    (passed_is _ _ _ c.from_residual.ensures.1 h))
 
 pub returns-in_err-text-clause-fault : goal.returns-in_err-text-clause-fault
 returns-in_err-text-clause-fault g c = passed_if _ _ _ c.from_residual-in_err-text.ensures.1

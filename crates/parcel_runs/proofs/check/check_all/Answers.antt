@@ -41,21 +41,21 @@ returns-in_err-put_all-in-Ok-clause-output g c = λ h. inl record {
       c.as_slice.ensures.value c.in_err-put_all-in-Ok.ensures.err;
 }
 
-pub returns-in_err-put_all-in-Err-clause-output : goal.returns-in_err-put_all-in-Err-clause-output
-returns-in_err-put_all-in-Err-clause-output g c = λ h.
+pub returns-in_err-put_lines-in-Err-clause-output : goal.returns-in_err-put_lines-in-Err-clause-output
+returns-in_err-put_lines-in-Err-clause-output g c = λ h.
     inr (lines_begun (parcel_run_of c.args.files.now)
     c.in-Err.refusal.fault (text_or_none c.in-Err.refusal.lines) c.lines.result.now (g.W.ByteOut.written c.args.out.now) _
-    c.lines.ensures c.in_err-put_all-in-Err.ensures.err c.in-Err.ensures.fault)
+    c.lines.ensures c.in_err-put_lines-in-Err.ensures.err c.in-Err.ensures.fault)
 
-pub returns-in_ok-put_all-in-Err-clause-fault : goal.returns-in_ok-put_all-in-Err-clause-fault
-returns-in_ok-put_all-in-Err-clause-fault g c =
+pub returns-in_ok-put_lines-in-Err-clause-fault : goal.returns-in_ok-put_lines-in-Err-clause-fault
+returns-in_ok-put_lines-in-Err-clause-fault g c =
     lines_written (parcel_run_of c.args.files.now) c.in-Err.refusal.fault
     (text_or_none c.in-Err.refusal.lines)
     c.lines.result.now (g.W.ByteOut.written c.args.out.now) _ (length c.args.files.now.clerks.items) c.lines.ensures
-    c.in_ok-put_all-in-Err.ensures.ok c.in-Err.ensures.fault
+    c.in_ok-put_lines-in-Err.ensures.ok c.in-Err.ensures.fault
 
-pub returns-in_ok-put_all-in-Err-clause-refuses : goal.returns-in_ok-put_all-in-Err-clause-refuses
-returns-in_ok-put_all-in-Err-clause-refuses g c = λ fault h. elim (c.in-Err.ensures.refuses fault h) [
+pub returns-in_ok-put_lines-in-Err-clause-refuses : goal.returns-in_ok-put_lines-in-Err-clause-refuses
+returns-in_ok-put_lines-in-Err-clause-refuses g c = λ fault h. elim (c.in-Err.ensures.refuses fault h) [
   | inl e ↦ inl e
   | inr e ↦ inr (inl e)
 ]
@@ -83,15 +83,15 @@ returns-in_err-text-in-Ok-clause-output g c = λ h.
 pub returns-in_err-text-in-Ok-clause-refuses : goal.returns-in_err-text-in-Ok-clause-refuses
 returns-in_err-text-in-Ok-clause-refuses g c = λ fault h. absurd (c.in-Ok.ensures.refuses fault h)
 
-pub returns-in_ok-put_all-in-Err-clause-output : goal.returns-in_ok-put_all-in-Err-clause-output
-returns-in_ok-put_all-in-Err-clause-output g c = λ h.
+pub returns-in_ok-put_lines-in-Err-clause-output : goal.returns-in_ok-put_lines-in-Err-clause-output
+returns-in_ok-put_lines-in-Err-clause-output g c = λ h.
     let fault = c.in-Err.refusal.fault in
     let answered : IsRunFault (parcel_run_of c.args.files.now) fault ⊎ (fault ≡ NoMemory) =
     elim c.in-Err.ensures.fault [ inl k ↦ inl k.0 | inr k ↦ inr k.0 ] in
     absurd (no_output _ fault answered (passed_is _ fault _ refl h))
 
-pub returns-in_ok-put_all-in-Err-clause-failed : goal.returns-in_ok-put_all-in-Err-clause-failed
-returns-in_ok-put_all-in-Err-clause-failed g c = λ h.
+pub returns-in_ok-put_lines-in-Err-clause-failed : goal.returns-in_ok-put_lines-in-Err-clause-failed
+returns-in_ok-put_lines-in-Err-clause-failed g c = λ h.
     let fault = c.in-Err.refusal.fault in
     let answered : IsRunFault (parcel_run_of c.args.files.now) fault ⊎ (fault ≡ NoMemory) =
     elim c.in-Err.ensures.fault [ inl k ↦ inl k.0 | inr k ↦ inr k.0 ] in

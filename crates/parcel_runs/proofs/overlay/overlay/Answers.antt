@@ -8,42 +8,45 @@ use Rattle.parcel_runs.specs.OverlayReport.{IsTableOf}
 use Rattle.parcel_runs.specs.own.LinesAndReports.{WritesBoth, BeginsBoth}
 use Rattle.geo_exact.proofs.PassedOn.{passed_on, passed_if, passed_is}
 use Rattle.parcel_runs.proofs.RunFaults.{same_want, want_no_output}
+use Rattle.parcel_runs.proofs.InputFaults.{zoned}
 use Rattle.parcel_runs.proofs.OverlayTexts.{no_output, overlay_want_no_output, want_of_more}
 use Rattle.parcel_runs.proofs.OverlayTexts.{all_written, some_written, on_output, output_alone, on_ok}
 use Rattle.parcel_runs.proofs.overlay.overlay.Goals as goal
 
-pub returns-in_err-run-clause-refuses : goal.returns-in_err-run-clause-refuses
-returns-in_err-run-clause-refuses g c = λ fault h. passed_on _ _ _ c.from_residual.ensures.1
-    (c.in_err-run.ensures.refuses fault h)
+pub returns-in_err-layer-clause-refuses : goal.returns-in_err-layer-clause-refuses
+returns-in_err-layer-clause-refuses g c = λ fault h. passed_on _ _ _ c.from_residual.ensures.1
+    (c.in_err-layer.ensures.refuses fault h)
 
-pub returns-in_err-run-clause-output : goal.returns-in_err-run-clause-output
-returns-in_err-run-clause-output g c = λ h.
-    absurd (no_output _ _ c.in_err-run.field-0.0 c.in_err-run.ensures.fault (passed_is _ _ _ c.from_residual.ensures.1 h))
+pub returns-in_err-layer-clause-output : goal.returns-in_err-layer-clause-output
+returns-in_err-layer-clause-output g c = λ h.
+    absurd (no_output (parcel_run_of c.args.files.now) (files_of c.args.zones.now) c.in_err-layer.field-0.0 c.in_err-layer.ensures.fault
+    (passed_is _ _ _ c.from_residual.ensures.1 h))
 
-pub returns-in_err-run-clause-failed : goal.returns-in_err-run-clause-failed
-returns-in_err-run-clause-failed g c = λ h.
-    absurd (no_output _ _ c.in_err-run.field-0.0 c.in_err-run.ensures.fault (passed_is _ _ _ c.from_residual.ensures.1 h))
+pub returns-in_err-layer-clause-failed : goal.returns-in_err-layer-clause-failed
+returns-in_err-layer-clause-failed g c = λ h.
+    absurd (no_output (parcel_run_of c.args.files.now) (files_of c.args.zones.now) c.in_err-layer.field-0.0 c.in_err-layer.ensures.fault
+    (passed_is _ _ _ c.from_residual.ensures.1 h))
 
 pub returns-in_err-sheet-clause-fault : goal.returns-in_err-sheet-clause-fault
 returns-in_err-sheet-clause-fault g c =
     passed_if _ _ _ c.from_residual-in_err-sheet.ensures.1
     (inr (inl (
-      inl (same_want c.args.files.now.clerks.items c.in_ok-run.field-0.run.clerks.items _ c.in_ok-run.ensures.edits
+      inl (same_want c.args.files.now.clerks.items c.in_ok-layer.field-0.clerks.items _ c.in_ok-layer.ensures.edits
           c.in_err-sheet.ensures.fault),
       refl,
     )))
 
 pub returns-in_err-sheet-clause-refuses : goal.returns-in_err-sheet-clause-refuses
-returns-in_err-sheet-clause-refuses g c = λ fault h. absurd (c.in_ok-run.ensures.refuses fault h)
+returns-in_err-sheet-clause-refuses g c = λ fault h. absurd (c.in_ok-layer.ensures.refuses fault h)
 
 pub returns-in_err-sheet-clause-output : goal.returns-in_err-sheet-clause-output
 returns-in_err-sheet-clause-output g c = λ h.
-    absurd (want_no_output (length c.in_ok-run.field-0.run.clerks.items) _ c.in_err-sheet.ensures.fault
+    absurd (want_no_output (length c.in_ok-layer.field-0.clerks.items) _ c.in_err-sheet.ensures.fault
     (passed_is _ _ _ c.from_residual-in_err-sheet.ensures.1 h))
 
 pub returns-in_err-sheet-clause-failed : goal.returns-in_err-sheet-clause-failed
 returns-in_err-sheet-clause-failed g c = λ h.
-    absurd (want_no_output (length c.in_ok-run.field-0.run.clerks.items) _ c.in_err-sheet.ensures.fault
+    absurd (want_no_output (length c.in_ok-layer.field-0.clerks.items) _ c.in_err-sheet.ensures.fault
     (passed_is _ _ _ c.from_residual-in_err-sheet.ensures.1 h))
 
 pub returns-in_err-table-clause-fault : goal.returns-in_err-table-clause-fault
@@ -51,7 +54,7 @@ returns-in_err-table-clause-fault g c = passed_if _ _ _ c.from_residual-in_err-t
     (inr (inl (want_of_more (length c.args.files.now.clerks.items) c.args.workers _ c.in_err-table.ensures.fault, refl)))
 
 pub returns-in_err-table-clause-refuses : goal.returns-in_err-table-clause-refuses
-returns-in_err-table-clause-refuses g c = λ fault h. absurd (c.in_ok-run.ensures.refuses fault h)
+returns-in_err-table-clause-refuses g c = λ fault h. absurd (c.in_ok-layer.ensures.refuses fault h)
 
 pub returns-in_err-table-clause-output : goal.returns-in_err-table-clause-output
 returns-in_err-table-clause-output g c = λ h.
@@ -65,16 +68,19 @@ returns-in_err-table-clause-failed g c = λ h.
 
 pub returns-clause-ok : goal.returns-clause-ok
 returns-clause-ok g c =
-    let inputs = c.in_ok-run.field-0.run in
-    let sheet = c.in_ok-sheet.sheet in
-    let lines = c.in_ok-sheet.lines in
+    let inputs = c.in_ok-layer.field-0 in
+    let are = zoned (files_of c.args.files.now.city) (files_of c.args.files.now.parcels) (files_of c.args.zones.now)
+    c.args.files.now.unit inputs.layer c.in-Some.zones inputs.zones c.in-Some.is c.in_ok-layer.ensures.tiles
+    c.in_ok-layer.ensures.zones in
+    let sheet = c.in_ok-sheet.field-0.sheet in
+    let lines = c.in_ok-sheet.field-0.lines in
     let table = c.in_ok-table.table in
     let edited : IsEdited inputs.layer (texts_of c.args.files.now.clerks.items) (register_of sheet) lines.items = record {
       clerks = inputs.clerks.items;
-      are_files = c.in_ok-run.ensures.edits;
+      are_files = c.in_ok-layer.ensures.edits;
       are_made = c.in_ok-sheet.ensures.made;
     } in
-    let is : IsTableOf (register_of sheet) c.in_ok-run.field-0.zones table = record {
+    let is : IsTableOf (register_of sheet) c.in-Some.zones table = record {
       rows = c.in_ok-table.ensures.rows;
       zones = c.in_ok-table.ensures.zones;
       entries = c.in_ok-table.ensures.entries;
@@ -82,7 +88,7 @@ returns-clause-ok g c =
     } in
     on_ok c.write_both.result _ _
     (all_written (parcel_run_of c.args.files.now) (files_of c.args.zones.now) inputs.layer
-    c.in_ok-run.field-0.zones (register_of sheet) lines.items table c.in_ok-run.ensures.zoned edited is _ _)
+    c.in-Some.zones (register_of sheet) lines.items table are edited is _ _)
     (subst (λ l. OnOk c.write_both.result (WritesBoth l table (g.W.ByteOut.written c.args.out.now)
     (g.W.ByteOut.written c.write_both.new.out)))
     c.as_slice.ensures.value c.write_both.ensures.ok)
@@ -91,27 +97,30 @@ pub returns-clause-fault : goal.returns-clause-fault
 returns-clause-fault g c = output_alone c.write_both.result _ c.write_both.ensures.output (λ fault e. inr (inr e))
 
 pub returns-clause-refuses : goal.returns-clause-refuses
-returns-clause-refuses g c = λ fault h. absurd (c.in_ok-run.ensures.refuses fault h)
+returns-clause-refuses g c = λ fault h. absurd (c.in_ok-layer.ensures.refuses fault h)
 
 pub returns-clause-output : goal.returns-clause-output
 returns-clause-output g c = λ h.
-    let inputs = c.in_ok-run.field-0.run in
-    let sheet = c.in_ok-sheet.sheet in
-    let lines = c.in_ok-sheet.lines in
+    let inputs = c.in_ok-layer.field-0 in
+    let are = zoned (files_of c.args.files.now.city) (files_of c.args.files.now.parcels) (files_of c.args.zones.now)
+    c.args.files.now.unit inputs.layer c.in-Some.zones inputs.zones c.in-Some.is c.in_ok-layer.ensures.tiles
+    c.in_ok-layer.ensures.zones in
+    let sheet = c.in_ok-sheet.field-0.sheet in
+    let lines = c.in_ok-sheet.field-0.lines in
     let table = c.in_ok-table.table in
     let edited : IsEdited inputs.layer (texts_of c.args.files.now.clerks.items) (register_of sheet) lines.items = record {
       clerks = inputs.clerks.items;
-      are_files = c.in_ok-run.ensures.edits;
+      are_files = c.in_ok-layer.ensures.edits;
       are_made = c.in_ok-sheet.ensures.made;
     } in
-    let is : IsTableOf (register_of sheet) c.in_ok-run.field-0.zones table = record {
+    let is : IsTableOf (register_of sheet) c.in-Some.zones table = record {
       rows = c.in_ok-table.ensures.rows;
       zones = c.in_ok-table.ensures.zones;
       entries = c.in_ok-table.ensures.entries;
       is_table = c.in_ok-table.ensures.table;
     } in
     some_written (parcel_run_of c.args.files.now) (files_of c.args.zones.now) inputs.layer
-    c.in_ok-run.field-0.zones (register_of sheet) lines.items table c.in_ok-run.ensures.zoned edited is _ _
+    c.in-Some.zones (register_of sheet) lines.items table are edited is _ _
     (on_output c.write_both.result _
     (subst (λ l. OnErr c.write_both.result (BeginsBoth l table (g.W.ByteOut.written c.args.out.now)
     (g.W.ByteOut.written c.write_both.new.out)))

@@ -13,8 +13,9 @@ returns-in_err-put_all-clause-err g c =
     rw (p.1)
     (record {
       report = report;
-      is_report = table_report table table.entries table.pairs c.use_invariant.ensures.table c.use_invariant.ensures.tiling c.use_invariant.ensures.zones_tile
-          c.use_invariant.ensures.simple c.use_invariant.ensures.ids_rise c.use_invariant.ensures.zones_rise refl refl;
+      is_report = table_report table table.entries table.pairs c.use_invariant.ensures.table c.use_invariant.ensures.tiling
+          c.use_invariant.ensures.zones_tile c.use_invariant.ensures.simple c.use_invariant.ensures.ids_rise
+          c.use_invariant.ensures.zones_rise refl refl;
       is_begun = begins_more _ _ c.args.lines.now report c.in_err-put_all.ensures.err;
     })
 

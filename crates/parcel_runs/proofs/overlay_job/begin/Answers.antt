@@ -1,8 +1,9 @@
-use Rattle.std.proofs.Common.{inl, inr, arith, sym, ◌∙◌, ap, subst, length}
+use Rattle.std.proofs.Common.{◌≡◌, inl, inr, arith, sym, ◌∙◌, ap, subst, length}
 use Rattle.std.specs.Prelude.{IsPermutation}
 use Rattle.std.specs.List.Sorted.{IsStrictlyIncreasing}
 use Rattle.std.proofs.lemmas.List.{length-map}
 use Rattle.fabric_core.specs.Rows.{numbers}
+use Rattle.overlay_work.specs.declared.round.RoundFault.TheVariants.{NoMemory}
 use Rattle.overlay_work.specs.Sharing.{joined}
 use Rattle.overlay_work.specs.own.Starting.{CanBegin}
 use Rattle.overlay_work.proofs.Starts.{no_fault}
@@ -11,8 +12,8 @@ use Rattle.parcel_runs.proofs.DealtLists.{length_fresh_hands}
 use Rattle.parcel_runs.proofs.HandNumbers.{AreNumberedBelow, fresh_below}
 use Rattle.parcel_runs.proofs.overlay_job.begin.Goals as goal
 
-pub fault_of_round-requires : goal.fault_of_round-requires
-fault_of_round-requires g c =
+pub unreachable-requires : goal.unreachable-requires
+unreachable-requires g c =
     let ids = numbers c.args.sheet.now.now.rows in
     let lists = dealt c.in_ok-lists.lists.items in
     let count = length-map c.in_ok-lists.lists.items (λ list. list.items) in
@@ -27,9 +28,13 @@ fault_of_round-requires g c =
       };
       same_city = c.requires.city;
     } in
-    elim c.in-Err.ensures.fault [
+    let memory : c.in-Err.fault ≡ NoMemory = elim c.in-Err.ensures.fault [
       | inl k ↦ absurd (no_fault ids c.args.sheet.now.city c.args.zones.now.city lists c.in-Err.fault can k)
       | inr e ↦ e
+    ] in
+    elim c.in-HandCount.is [
+      | inl k ↦ let same = k.1 in cc
+      | inr k ↦ elim k [ inl same ↦ cc | inr other ↦ let same = other.1 in cc ]
     ]
 
 pub returns-in-Ok-clause-all : goal.returns-in-Ok-clause-all

@@ -38,7 +38,7 @@ returns-in-Some-clause-ok g c =
             c.in-Some.ensures;
         is_city = row_is_a_city layer.rows layer.city c.use_invariant.ensures.simple c.use_invariant.ensures.tiling row c.in-Some.ensures;
       };
-      is_told = c.in_ok-part_of-in-Some.ensures.line;
+      is_told = c.in_ok-part_of-in-Some.ensures.lines;
     }
 
 pub returns-in-Some-clause-refuses : goal.returns-in-Some-clause-refuses

@@ -6,7 +6,8 @@ use Rattle.zone_tables.proofs.Zonings.{next_split}
 use Rattle.zone_tables.proofs.lines.push_splits.Goals as goal
 
 pub loop-parcel-init : goal.loop-parcel-init
-loop-parcel-init g c = rw (c.into_iter-parcel-iterator.ensures.into_iter_gives, c.new-parcel-items.ensures) (whole_left _ g.met.S.Sink.takes_nothing _ _)
+loop-parcel-init g c =
+    rw (c.into_iter-parcel-iterator.ensures.into_iter_gives, c.new-parcel-items.ensures) (whole_left _ g.met.S.Sink.takes_nothing _ _)
 
 pub loop-parcel-preserved-in-Continue-1 : goal.loop-parcel-preserved-in-Continue-1
 loop-parcel-preserved-in-Continue-1 g c =

@@ -16,8 +16,9 @@ returns-in_err-push_report-clause-begun g c =
     rw (p.1)
     (record {
       text = text;
-      is_report = table_report c.args.table.now c.entries.result c.pairs.result.now c.use_invariant.ensures.table c.use_invariant.ensures.tiling
-          c.use_invariant.ensures.zones_tile c.use_invariant.ensures.simple c.use_invariant.ensures.ids_rise c.use_invariant.ensures.zones_rise
+      is_report = table_report c.args.table.now c.entries.result c.pairs.result.now c.use_invariant.ensures.table
+          c.use_invariant.ensures.tiling c.use_invariant.ensures.zones_tile c.use_invariant.ensures.simple c.use_invariant.ensures.ids_rise
+          c.use_invariant.ensures.zones_rise
           c.entries.ensures c.pairs.ensures.pairs;
       is_begun = handed_back (λ a b. AppendsBeginning (written a) (written b) text) _ _ c.push_report.new.text.out.now _
           c.new-text.ensures.out (search rules)
@@ -31,8 +32,9 @@ returns-clause-ok g c =
     on_ok_weaker c.finish.result
     (λ h. record {
       text = text;
-      is_report = table_report c.args.table.now c.entries.result c.pairs.result.now c.use_invariant.ensures.table c.use_invariant.ensures.tiling
-          c.use_invariant.ensures.zones_tile c.use_invariant.ensures.simple c.use_invariant.ensures.ids_rise c.use_invariant.ensures.zones_rise
+      is_report = table_report c.args.table.now c.entries.result c.pairs.result.now c.use_invariant.ensures.table
+          c.use_invariant.ensures.tiling c.use_invariant.ensures.zones_tile c.use_invariant.ensures.simple c.use_invariant.ensures.ids_rise
+          c.use_invariant.ensures.zones_rise
           c.entries.ensures c.pairs.ensures.pairs;
       is_written = handed_back (λ a b. Appends (written a) (written b) text) _ _ c.finish.new.self.out.now _
           c.new-text.ensures.out (search rules)
@@ -47,8 +49,9 @@ returns-clause-begun g c =
     on_err_weaker c.finish.result
     (λ h. record {
       text = text;
-      is_report = table_report c.args.table.now c.entries.result c.pairs.result.now c.use_invariant.ensures.table c.use_invariant.ensures.tiling
-          c.use_invariant.ensures.zones_tile c.use_invariant.ensures.simple c.use_invariant.ensures.ids_rise c.use_invariant.ensures.zones_rise
+      is_report = table_report c.args.table.now c.entries.result c.pairs.result.now c.use_invariant.ensures.table
+          c.use_invariant.ensures.tiling c.use_invariant.ensures.zones_tile c.use_invariant.ensures.simple c.use_invariant.ensures.ids_rise
+          c.use_invariant.ensures.zones_rise
           c.entries.ensures c.pairs.ensures.pairs;
       is_begun = handed_back (λ a b. AppendsBeginning (written a) (written b) text) _ _ c.finish.new.self.out.now _
           c.new-text.ensures.out (search rules)

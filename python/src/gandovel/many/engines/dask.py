@@ -152,7 +152,8 @@ def _quiet() -> None:
 
 @contextmanager
 def _told_if_gone(then: Callable[[BaseException], object]) -> Iterator[None]:
-    """Calls `then` where the scheduler goes away, which Dask tells by errors of files and cancellations among others."""
+    """Calls `then` where the scheduler goes away, which Dask tells by errors of files and cancellations among
+    others."""
     try:
         yield
     except BaseException as fault:

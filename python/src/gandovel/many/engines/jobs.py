@@ -12,10 +12,12 @@ MOST, FEWEST = 256, 4
 """The most tasks of a job; and so many are one, rather than one alone, where there are very many tasks."""
 
 SHARES, VERY_MANY = 2, 16
-"""A job takes at most one of `SHARES` shares a processor of what is left. Very many are `VERY_MANY` jobs a processor."""
+"""A job takes at most one of `SHARES` shares a processor of what is left. Very many are `VERY_MANY` jobs a
+processor."""
 
 EACH, LITTLE = 128 << 10, 2 << 20
-"""What a task takes beside the reading of its files, and what is too little for a job, in bytes of files read as long."""
+"""What a task takes beside the reading of its files, and what is too little for a job, in bytes of files read as
+long."""
 
 
 ALONE = "alone"

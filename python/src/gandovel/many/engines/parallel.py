@@ -24,7 +24,8 @@ SCRIPT = (b"Ole Tange", b"GNU parallel")
 
 PR_SET_PDEATHSIG = 1
 JOB = 'exec "$GANDOVEL_PYTHON" -I -S "$GANDOVEL_WORKER" . --shared {} --with-parent'
-"""What parallel runs, in the folder of the jobs' lists. No path stands in it: parallel has a use for some of their characters."""
+"""What parallel runs, in the folder of the jobs' lists. No path stands in it: parallel has a use for some of their
+characters."""
 
 
 class ParallelEngine(Engine):

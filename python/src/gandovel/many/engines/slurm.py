@@ -1,4 +1,5 @@
-"""Slurm, by array jobs, whose elements have several small cities each. `sacct`, else `squeue`, tells what became of them."""
+"""Slurm, by array jobs, whose elements have several small cities each. `sacct`, else `squeue`, tells what became of
+them."""
 from __future__ import annotations
 
 import json

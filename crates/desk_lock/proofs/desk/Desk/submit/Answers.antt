@@ -6,7 +6,8 @@ use Rattle.desk_lock.proofs.desk.Desk.submit.Goals as goal
 pub returns-clause-after : goal.returns-clause-after
 returns-clause-after g c = rw (c.publish-notice.ensures.same.0, c.in_ok-entry.ensures.made)
     (is_sometime_after g.J.Naming-1.office c.args.card.now c.args.self.now.book.journal c.in_ok-entry.entry c.edit.new.self.book
-    c.edit.new.self.entries c.edit.new.card.met c.edit.ensures.met c.in_ok-entry.ensures.sometime c.in_ok-entry.ensures.clerk c.in_ok-entry.ensures.journal
+    c.edit.new.self.entries c.edit.new.card.met c.edit.ensures.met c.in_ok-entry.ensures.sometime c.in_ok-entry.ensures.clerk
+    c.in_ok-entry.ensures.journal
     c.use_invariant.ensures.lawful c.use_invariant.ensures.origin c.use_invariant.ensures.entries c.use_invariant.ensures.of_clerks)
 
 pub returns-clause-published : goal.returns-clause-published

@@ -20,5 +20,6 @@ returns-clause-of_clerks g c =
     told_of_clerks office c.publish_to.result c.args.number c.deref_mut.result.now c.publish_to.ensures.first
     (subst (λ (desk : DeskState (Bor g.row.H.Denot)). IsOfOrigin office.origin desk.book) is c.use_invariant.ensures.origin)
     (subst (λ (desk : DeskState (Bor g.row.H.Denot)). IsPrefix office.origin.journal desk.published) is c.use_invariant.ensures.shows)
-    (subst (λ (desk : DeskState (Bor g.row.H.Denot)). desk.book.journal ≡ office.origin.journal ++ desk.entries) is c.use_invariant.ensures.entries)
+    (subst (λ (desk : DeskState (Bor g.row.H.Denot)). desk.book.journal ≡ office.origin.journal ++ desk.entries) is
+    c.use_invariant.ensures.entries)
     (subst (λ (desk : DeskState (Bor g.row.H.Denot)). AreOfClerks office.clerks desk.entries) is c.use_invariant.ensures.of_clerks)

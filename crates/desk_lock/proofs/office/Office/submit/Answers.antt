@@ -12,16 +12,18 @@ returns-clause-sometime g c = receipt_is_sometime g.J.Naming-1.office c.submit.n
     c.submit.ensures.after c.submit.ensures.published c.submit.ensures.told
 
 pub returns-clause-met : goal.returns-clause-met
-returns-clause-met g c = met_on (λ (receipt : ReceiptState (Bor g.row.H.Denot)). receipt.entry) g.J.Naming-1.office c.args.card.now c.submit.new.card c.submit.result c.deref_mut.result.now
-    c.submit.new.self c.submit.ensures.sometime c.submit.ensures.met c.submit.ensures.journal c.submit.ensures.unchanged
+returns-clause-met g c = met_on (λ (receipt : ReceiptState (Bor g.row.H.Denot)). receipt.entry) g.J.Naming-1.office c.args.card.now
+    c.submit.new.card c.submit.result c.deref_mut.result.now c.submit.new.self c.submit.ensures.sometime c.submit.ensures.met
+    c.submit.ensures.journal c.submit.ensures.unchanged
 
 pub returns-clause-ends : goal.returns-clause-ends
-returns-clause-ends g c = met_ends (λ (receipt : ReceiptState (Bor g.row.H.Denot)). receipt.entry) g.J.Naming-1.office c.submit.new.card c.submit.result c.deref_mut.result.now.book.journal
-    c.submit.new.self c.submit.ensures.met c.submit.ensures.number c.submit.ensures.journal
+returns-clause-ends g c = met_ends (λ (receipt : ReceiptState (Bor g.row.H.Denot)). receipt.entry) g.J.Naming-1.office c.submit.new.card
+    c.submit.result c.deref_mut.result.now.book.journal c.submit.new.self c.submit.ensures.met c.submit.ensures.number
+    c.submit.ensures.journal
 
 pub returns-clause-after : goal.returns-clause-after
-returns-clause-after g c = met_is_sometime (λ (receipt : ReceiptState (Bor g.row.H.Denot)). receipt.entry) g.J.Naming-1.office c.submit.new.card c.submit.result c.submit.new.self
-    c.submit.ensures.met c.submit.ensures.after
+returns-clause-after g c = met_is_sometime (λ (receipt : ReceiptState (Bor g.row.H.Denot)). receipt.entry) g.J.Naming-1.office
+    c.submit.new.card c.submit.result c.submit.new.self c.submit.ensures.met c.submit.ensures.after
 
 pub returns-clause-refusal : goal.returns-clause-refusal
 returns-clause-refusal g c = refused_when_met g.J.Naming-1.office c.args.card.now c.submit.new.card c.args.edit.now c.submit.result

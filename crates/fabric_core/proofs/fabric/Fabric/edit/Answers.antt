@@ -2,10 +2,10 @@ use Rattle.std.proofs.Common.{◌≡◌, ◌⊎◌, ap, Err, inl, inr, sym, ◌�
 use Rattle.fabric_core.specs.declared.journal.TheConstants.{JOURNAL_ENTRIES}
 use Rattle.fabric_core.specs.declared.refusal.Refusal.TheVariants.{JournalFull, NoMemory}
 use Rattle.fabric_core.specs.Journal.{Book}
-use Rattle.fabric_core.specs.Refusals.{IsRefusal, AreParcels, named_ids}
+use Rattle.fabric_core.specs.Refusals.{IsFirstBent, IsRefusal, AreParcels, named_ids}
 use Rattle.fabric_core.specs.own.Books.{IsBook}
 use Rattle.fabric_core.specs.own.Changes.{state_of}
-use Rattle.fabric_core.proofs.edits.Booked.{drafted, for_that_alone, for_nothing, for_nothing_early, one_more}
+use Rattle.fabric_core.proofs.edits.Booked.{bent_told, drafted, for_that_alone, for_nothing, for_nothing_early, one_more}
 use Rattle.fabric_core.proofs.edits.Refusals.{IsErrAnd-weaker, error_is}
 use Rattle.geo_exact.proofs.PassedOn.{passed_if}
 use Rattle.fabric_core.proofs.fabric.Fabric.edit.Goals as goal
@@ -21,6 +21,21 @@ returns-in_err-draft-clause-refusal g c =
     (drafted c.self.inside.opening c.self.inside.journal.items c.self.inside.tiled c.self.inside.corners c.self.invariant c.args.edit.now
     c.in_err-draft.field-0.0 room why)))
     (λ e. inr e) c.in_err-draft.ensures.err)
+
+pub returns-in_err-draft-clause-bent : goal.returns-in_err-draft-clause-bent
+returns-in_err-draft-clause-bent g c = λ at id e told.
+    let room : length c.self.inside.journal.items < JOURNAL_ENTRIES = omega (arith, c.len.ensures, c.if-len-ge-JOURNAL_ENTRIES.false) in
+    subst (λ (b : Book _). IsFirstBent b.now.rows at id) c.self.view_is
+    (bent_told c.self.inside.opening c.self.inside.journal.items c.self.inside.tiled c.self.inside.corners c.self.invariant
+    c.from_residual.result c.args.edit.now at id
+    (passed_if c.from_residual.result c.in_err-draft.field-0.0
+    (λ refusal. IsRefusal (state_of c.self.inside.tiled) c.self.inside.journal.items c.args.edit.now refusal
+    ⊎ (refusal ≡ NoMemory)) c.from_residual.ensures.1
+    (⊎_elim
+    (λ why. inl (drafted c.self.inside.opening c.self.inside.journal.items c.self.inside.tiled c.self.inside.corners c.self.invariant
+    c.args.edit.now c.in_err-draft.field-0.0 room why))
+    (λ none. inr none) c.in_err-draft.ensures.err))
+    e told)
 
 pub returns-in_err-draft-clause-refuses : goal.returns-in_err-draft-clause-refuses
 returns-in_err-draft-clause-refuses g c = λ s h.
@@ -84,7 +99,8 @@ returns-in_err-entry-clause-exact g c = λ s h early.
     let room : length c.self.inside.journal.items < JOURNAL_ENTRIES = omega (arith, c.len.ensures, c.if-len-ge-JOURNAL_ENTRIES.false) in
     let told = subst (λ (b : Book _). IsRefusal b.now b.journal c.args.edit.now s) (sym c.self.view_is) h in
     let entry = c.in_ok-draft.draft.entry in
-    absurd (for_nothing c.self.inside.opening c.self.inside.journal.items c.self.inside.tiled c.self.inside.corners c.self.invariant entry s room
+    absurd (for_nothing c.self.inside.opening c.self.inside.journal.items c.self.inside.tiled c.self.inside.corners
+    c.self.invariant entry s room
     (subst (λ edit. AreParcels c.self.inside.tiled.rows (named_ids edit)) (sym c.in_ok-draft.ensures.edit) c.in_ok-draft.ensures.here)
     c.in_ok-draft.ensures.is_entry
     (subst (λ edit. IsRefusal (state_of c.self.inside.tiled) c.self.inside.journal.items edit s) (sym c.in_ok-draft.ensures.edit) told))
@@ -94,7 +110,8 @@ returns-in_err-self-inside-clause-exact g c = λ s h early.
     let room : length c.self.inside.journal.items < JOURNAL_ENTRIES = omega (arith, c.len.ensures, c.if-len-ge-JOURNAL_ENTRIES.false) in
     let told = subst (λ (b : Book _). IsRefusal b.now b.journal c.args.edit.now s) (sym c.self.view_is) h in
     let entry = c.in_ok-draft.draft.entry in
-    absurd (for_nothing c.self.inside.opening c.self.inside.journal.items c.self.inside.tiled c.self.inside.corners c.self.invariant entry s room
+    absurd (for_nothing c.self.inside.opening c.self.inside.journal.items c.self.inside.tiled c.self.inside.corners
+    c.self.invariant entry s room
     (subst (λ edit. AreParcels c.self.inside.tiled.rows (named_ids edit)) (sym c.in_ok-draft.ensures.edit) c.in_ok-draft.ensures.here)
     c.in_ok-draft.ensures.is_entry
     (subst (λ edit. IsRefusal (state_of c.self.inside.tiled) c.self.inside.journal.items edit s) (sym c.in_ok-draft.ensures.edit) told))

@@ -21,7 +21,7 @@ returns-in-Err-clause-fault g c =
           (subst (λ (b : Book _). IsEntryOf b.now c.args.entry.now) (sym c.self.view_is) due.is_entry))
           (λ none. some.0 none) c.in-Err.ensures.err,
     ))
-    c.fault_of.ensures
+    c.from.ensures
 
 pub returns-then-not-changes_as-clause-fault : goal.returns-then-not-changes_as-clause-fault
 returns-then-not-changes_as-clause-fault g c =

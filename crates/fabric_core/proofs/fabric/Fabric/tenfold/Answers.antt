@@ -1,6 +1,6 @@
 use Rattle.std.proofs.Common.{inl, sym, ◌∙◌, ap, subst, map}
 use Rattle.std.specs.List.{AllByRecursion}
-use Rattle.scaled_rings.specs.Tenfold.{IsNear, IsTenTimes}
+use Rattle.scaled_rings.specs.Tenfold.{IsNear, IsTenTimes, near_limit}
 use Rattle.scaled_rings.proofs.Farthest.{one_far, none_far}
 use Rattle.fabric_core.specs.declared.tenfold.ScaleFault.TheVariants.{TooFar}
 use Rattle.fabric_core.specs.Journal.{Book}
@@ -14,7 +14,7 @@ use Rattle.fabric_core.proofs.fabric.Fabric.tenfold.Goals as goal
 
 pub returns-in-Some-clause-refuses : goal.returns-in-Some-clause-refuses
 returns-in-Some-clause-refuses g c = λ corner h.
-    inl (ap TooFar (one_far (corners_of_book c.args.self.now) c.in-Some.corner corner c.in-Some.ensures h))
+    inl (ap TooFar (one_far near_limit (corners_of_book c.args.self.now) c.in-Some.corner corner c.in-Some.ensures h))
 
 pub tenfold-requires-clause-near_city : goal.tenfold-requires-clause-near_city
 tenfold-requires-clause-near_city g c =
@@ -26,8 +26,8 @@ tenfold-requires-clause-near g c =
     let near : AllByRecursion IsNear (corners_of_book c.args.self.now) = c.in_default.ensures in
     subst (λ (b : Book _). AllByRecursion IsNear (corners_of_state b.now)) (sym c.self.view_is) (near_book c.args.self.now near).now
 
-pub tenfold-requires-2 : goal.tenfold-requires-2
-tenfold-requires-2 g c =
+pub tenfold-opening-requires : goal.tenfold-opening-requires
+tenfold-opening-requires g c =
     let near : AllByRecursion IsNear (corners_of_book c.args.self.now) = c.in_default.ensures in
     subst (λ (b : Book _). AllByRecursion IsNear (corners_of_state b.opening)) (sym c.self.view_is)
     (near_book c.args.self.now near).opening
@@ -43,7 +43,7 @@ invariant_of-result g c =
     let opening = c.self.inside.opening in let journal = c.self.inside.journal.items in let tiled = c.in_ok-tiled.tiled in
     let corners = c.self.inside.corners in
     subst (λ state. IsBook state c.in_ok-journal.journal.items tiled corners)
-    (sym (is_ten_state opening c.in_ok-opening.opening c.in_ok-opening.ensures))
+    (sym (is_ten_state opening c.tenfold-opening.result c.tenfold-opening.ensures))
     (subst (λ entries. IsBook (ten_state opening) entries tiled corners)
     (sym (are_ten_entries c.journal.result.now c.in_ok-journal.journal.items c.in_ok-journal.ensures
     ∙ ap (map ten_entry) (c.journal.ensures ∙ sym (ap (λ (b : Book _). b.journal) c.self.view_is))))
@@ -58,4 +58,4 @@ invariant_of-result g c =
 pub returns-clause-refuses : goal.returns-clause-refuses
 returns-clause-refuses g c = λ corner h.
     let near : AllByRecursion IsNear (corners_of_book c.args.self.now) = c.in_default.ensures in
-    none_far (corners_of_book c.args.self.now) corner near h
+    none_far near_limit (corners_of_book c.args.self.now) corner near h

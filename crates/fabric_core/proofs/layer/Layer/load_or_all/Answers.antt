@@ -48,6 +48,7 @@ load_refined-requires-clause-city g c =
       c.args.city.now.few,
     ) in
     subst (λ ring. IsRefinedCity ring c.in_ok-refined.refined.refined) (sym c.in_ok-refined.ensures.city) (record {
+      simple = c.args.city.now.ring.is_simple;
       few = c.args.city.now.few;
       wound_once = c.args.city.now.wound_once;
       corners = corners_of_layer records city;

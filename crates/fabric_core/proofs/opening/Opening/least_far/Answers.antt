@@ -1,17 +1,23 @@
-use Rattle.std.proofs.Common.{◌∙◌, ap, subst, ◌++◌}
-use Rattle.std.proofs.lemmas.List.{append_assoc}
+use Rattle.std.proofs.Common.{sym, ◌∙◌, subst, arith, ◌++◌, List}
+use Rattle.geo_exact.specs.declared.corner.Corner.{Corner}
 use Rattle.scaled_rings.specs.Tenfold.{IsLeastFarOf}
 use Rattle.fabric_core.specs.Journal.{State}
-use Rattle.fabric_core.specs.Tenfold.{corners_of_rows, corners_of_state}
-use Rattle.fabric_core.specs.own.EntryRows.{rows_of_entry}
+use Rattle.fabric_core.specs.Tenfold.{corners_of_state}
+use Rattle.fabric_core.specs.own.Changes.{state_of}
+use Rattle.fabric_core.proofs.tens.Farthest.{joined_none, joined_some}
 use Rattle.fabric_core.proofs.opening.Opening.least_far.Goals as goal
 
-pub returns : goal.returns
-returns g c = λ before h.
-    let rows = corners_of_rows (rows_of_entry c.deref.result.now) in
+pub returns-in-None : goal.returns-in-None
+returns-in-None g c = λ before h.
+    let corners : List Corner = corners_of_state (state_of c.self.inside.was.value) in
+    subst (λ (s : State). IsLeastFarOf (before ++ corners_of_state s) c.args.found) c.self.view_is
+    (joined_none before corners c.args.found
+    (subst (IsLeastFarOf corners) (sym c.too_far.ensures ∙ c.in-None.is) (c.self.invariant 11 (omega arith))) h)
+
+pub returns-in-Some : goal.returns-in-Some
+returns-in-Some g c = λ before h.
+    let corners : List Corner = corners_of_state (state_of c.self.inside.was.value) in
     subst (λ (s : State). IsLeastFarOf (before ++ corners_of_state s) c.least_far.result) c.self.view_is
-    (subst (λ xs. IsLeastFarOf xs c.least_far.result)
-    (append_assoc before rows c.as_slice.result.now
-    ∙ ap (λ items. before ++ (corners_of_rows (rows_of_entry items) ++ c.as_slice.result.now)) c.deref.ensures.value
-    ∙ ap (λ ring. before ++ (corners_of_rows (rows_of_entry c.self.inside.rows.items) ++ ring)) c.as_slice.ensures)
-    (c.least_far.ensures (before ++ rows) (c.least_far_of_rows-found.ensures before h)))
+    (joined_some before corners c.in-Some.corner c.least_far.result
+    (subst (IsLeastFarOf corners) (sym c.too_far.ensures ∙ c.in-Some.is) (c.self.invariant 11 (omega arith)))
+    (c.least_far.ensures before h))

@@ -2,6 +2,7 @@ use Rattle.std.proofs.Common.{◌≡◌, ◌↔◌, sym, ◌∙◌, ap, subst, l
 use Rattle.std.specs.List.{AllByRecursion}
 use Rattle.std.proofs.lemmas.List.{length-map}
 use Rattle.parcel_table.specs.Table.{HasId, rows_of_keyed}
+use Rattle.ring_core.specs.Simple.{IsSimpleRing}
 use Rattle.ring_edits.specs.Edits.{CoversAlike}
 use Rattle.fabric_core.specs.Rows.{numbers}
 use Rattle.fabric_core.specs.own.Kept.{Kept, MayBeKept, by_ids}
@@ -10,7 +11,7 @@ use Rattle.fabric_core.specs.own.RingChanges.{AreShapesOf, KeepsGround, changed_
 use Rattle.fabric_core.proofs.rows.RowLists.{ascending}
 use Rattle.fabric_core.proofs.edits.Exchanges.{shown}
 use Rattle.fabric_core.proofs.edits.ChangedParcels.{AreChanged, change_all, changed_kept, rise_of, ids_here, ids_by_key_changed, ring_after}
-use Rattle.fabric_core.proofs.edits.RingChanges.{city_covers}
+use Rattle.fabric_core.proofs.edits.RingChanges.{city_covers, city_simple}
 use Rattle.fabric_core.proofs.tiled.Tiled.change_rings.Goals as goal
 
 pub replace_all-requires-clause-here : goal.replace_all-requires-clause-here
@@ -50,6 +51,10 @@ invariant_of-self g c =
     (subst (CoversAlike c.self.inside.refined) (sym refined)
     (city_covers change c.self.inside.refined
     (subst (λ (t : Kept). KeepsGround change t.refined) (sym c.self.view_is) c.requires.city_ground)))
+    (subst IsSimpleRing (sym refined)
+    (city_simple change c.self.inside.refined
+    (subst (λ (t : Kept). KeepsGround change t.refined) (sym c.self.view_is) c.requires.city_ground)
+    c.self.invariant.simple_city))
     (subst (λ ring. MayBeKept (map (changed_row change) (rows_of_keyed parcels)) ring) (sym refined)
     (subst (λ (t : Kept). MayBeKept (map (changed_row change) t.rows) (changed_city change t.refined))
     (sym c.self.view_is) c.requires.kept))

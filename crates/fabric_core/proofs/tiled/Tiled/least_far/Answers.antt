@@ -1,15 +1,11 @@
-use Rattle.std.proofs.Common.{◌∙◌, ap, subst, ◌++◌}
-use Rattle.std.proofs.lemmas.List.{append_assoc}
-use Rattle.parcel_table.specs.Table.{rows_of as rows_of_shapes}
-use Rattle.scaled_rings.specs.Tenfold.{IsLeastFarOf}
-use Rattle.fabric_core.specs.Tenfold.{corners_of_rows}
+use Rattle.std.proofs.Common.{sym, subst, ◌++◌}
+use Rattle.scaled_rings.specs.Tenfold.{IsLeastBeyondOf}
+use Rattle.fabric_core.specs.Tenfold.{corners_of_state}
+use Rattle.fabric_core.specs.own.Changes.{state_of}
 use Rattle.fabric_core.proofs.tiled.Tiled.least_far.Goals as goal
 
 pub returns : goal.returns
 returns g c = λ before h.
-    let rows = corners_of_rows (rows_of_shapes c.shapes.result) in
-    subst (λ xs. IsLeastFarOf xs c.least_far.result)
-    (append_assoc before rows c.refined.result.now
-    ∙ ap (λ rows. before ++ (corners_of_rows rows ++ c.refined.result.now)) c.shapes.ensures
-    ∙ ap (λ ring. before ++ (corners_of_rows c.args.self.now.rows ++ ring)) c.refined.ensures)
-    (c.least_far.ensures (before ++ rows) (c.least_far_of_shapes-found.ensures before h))
+    subst (λ most. IsLeastBeyondOf most (before ++ corners_of_state (state_of c.args.self.now)) c.least_beyond.result)
+    c.unsigned_abs.ensures.value
+    (c.least_beyond.ensures before (subst (λ most. IsLeastBeyondOf most before c.args.found) (sym c.unsigned_abs.ensures.value) h))

@@ -35,7 +35,8 @@ tenfold_shapes-requires g c =
 pub replace_all-requires-clause-same_length : goal.replace_all-requires-clause-same_length
 replace_all-requires-clause-same_length g c =
     let rows = c.args.self.now.rows in
-    let ids = collected c.collect.result c.in_ok-ids.ids c.ids.result (numbers rows) c.in_ok-ids.was c.collect.ensures.ran c.ids.ensures.ids in
+    let ids =
+    collected c.collect.result c.in_ok-ids.ids c.ids.result (numbers rows) c.in_ok-ids.was c.collect.ensures.ran c.ids.ensures.ids in
     ap length (c.deref.ensures.value ∙ ids)
     ∙ as_many_shapes rows c.in_ok-shapes.shapes.items
     (subst (λ rows. AllZip IsTenShape rows c.in_ok-shapes.shapes.items) c.shapes.ensures c.in_ok-shapes.ensures)
@@ -43,7 +44,8 @@ replace_all-requires-clause-same_length g c =
 pub replace_all-requires-clause-here : goal.replace_all-requires-clause-here
 replace_all-requires-clause-here g c =
     let rows = c.args.self.now.rows in
-    let ids = collected c.collect.result c.in_ok-ids.ids c.ids.result (numbers rows) c.in_ok-ids.was c.collect.ensures.ran c.ids.ensures.ids in
+    let ids =
+    collected c.collect.result c.in_ok-ids.ids c.ids.result (numbers rows) c.in_ok-ids.was c.collect.ensures.ran c.ids.ensures.ids in
     let parcels = c.self.inside.parcels.parcels in let copies = c.in_ok-parcels.parcels.parcels in
     subst (AllByRecursion (HasId copies))
     (ap numbers (same_rows parcels copies c.in_ok-parcels.ensures.cases.parcels ∙ ap (λ (t : Kept). t.rows) c.self.view_is)
@@ -53,7 +55,8 @@ replace_all-requires-clause-here g c =
 pub invariant_of-result : goal.invariant_of-result
 invariant_of-result g c =
     let rows = c.args.self.now.rows in
-    let ids = collected c.collect.result c.in_ok-ids.ids c.ids.result (numbers rows) c.in_ok-ids.was c.collect.ensures.ran c.ids.ensures.ids in
+    let ids =
+    collected c.collect.result c.in_ok-ids.ids c.ids.result (numbers rows) c.in_ok-ids.was c.collect.ensures.ran c.ids.ensures.ids in
     let parcels = c.self.inside.parcels.parcels in let copies = c.in_ok-parcels.parcels.parcels in
     let here = ap (λ (t : Kept). t.rows) c.self.view_is in
     let after : rows_of_keyed c.replace_all.new.parcels.parcels ≡ ten_rows rows =
@@ -82,7 +85,8 @@ invariant_of-result g c =
 pub returns-clause-now : goal.returns-clause-now
 returns-clause-now g c =
     let rows = c.args.self.now.rows in
-    let ids = collected c.collect.result c.in_ok-ids.ids c.ids.result (numbers rows) c.in_ok-ids.was c.collect.ensures.ran c.ids.ensures.ids in
+    let ids =
+    collected c.collect.result c.in_ok-ids.ids c.ids.result (numbers rows) c.in_ok-ids.was c.collect.ensures.ran c.ids.ensures.ids in
     let parcels = c.self.inside.parcels.parcels in let copies = c.in_ok-parcels.parcels.parcels in
     let after : rows_of_keyed c.replace_all.new.parcels.parcels ≡ ten_rows rows =
     ap (λ table. rows_of_keyed table.parcels) c.replace_all.ensures

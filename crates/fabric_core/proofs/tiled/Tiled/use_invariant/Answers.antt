@@ -47,6 +47,7 @@ returns-clause-balanced g c =
         below = rows_below c.self.inside.parcels.next parcels (λ id here. c.use_invariant.ensures.below id here);
       };
       simple = simple_keyed parcels;
+      simple_city = c.self.invariant.simple_city;
       alike = c.self.invariant.alike;
     })
 

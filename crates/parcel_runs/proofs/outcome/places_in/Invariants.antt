@@ -1,6 +1,0 @@
-use Rattle.std.proofs.Common.{take}
-use Rattle.clerk_runs.specs.ClerkRuns.{AreLocated}
-use Rattle.parcel_runs.proofs.outcome.places_in.Given as goal
-
-abbrev pub invariant-loop-corner : goal.invariant-loop-corner
-invariant-loop-corner g l = AreLocated l.layer.rows (take l.corner-index l.corners) l.places.items
