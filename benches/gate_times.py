@@ -36,9 +36,9 @@ def fields_of(pid: int) -> List[str]:
     return (Path("/proc") / str(pid) / "stat").read_text().rsplit(")", 1)[1].split()
 
 
-def seconds_of(pid: int) -> float:
+def seconds_of(fields: List[str]) -> float:
     """How many seconds of a processor a process has used. Its children are watched for themselves."""
-    return sum(map(int, fields_of(pid)[11:13])) / TICKS
+    return sum(map(int, fields[11:13])) / TICKS
 
 
 def is_below(pid: int, gates: List[int]) -> bool:
@@ -59,7 +59,8 @@ def kind_of(words: str, folder: Path) -> str:
 
 def watch(pause: float) -> Dict[Tuple[str, str], float]:
     """Seconds by crate and kind, until none of `rt ci`, `scripts/prove` and `scripts/wrong_bodies` runs."""
-    seen: Dict[int, Tuple[str, str, float]] = {}
+    # by the time at which a process began, too, since numbers of processes come again
+    seen: Dict[Tuple[int, str], Tuple[str, str, float]] = {}
     while True:
         there = list(processes())
         gates = [pid for pid, words, _ in there if GATES.search(words)]
@@ -69,7 +70,8 @@ def watch(pause: float) -> Dict[Tuple[str, str], float]:
                 continue
             try:
                 if is_below(pid, gates):
-                    seen[pid] = (found.group(1), kind_of(words, folder), seconds_of(pid))
+                    fields = fields_of(pid)
+                    seen[pid, fields[19]] = (found.group(1), kind_of(words, folder), seconds_of(fields))
             except OSError:
                 continue
         if not gates:

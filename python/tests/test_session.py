@@ -297,10 +297,11 @@ def test_a_client_that_never_reads_keeps_its_own_desk_alone(town):
 
 
 def filled(raw: Raw, line: bytes, seconds: float) -> int:
-    """Sends a line again and again until nothing was taken for so long, or nobody reads; how many of them are whole."""
+    """Sends a line again and again until nothing was taken for so long, or nobody reads, and a MiB at the most, since a
+    desk whose answers nobody wants takes them as fast as they come; how many of them are whole."""
     os.set_blocking(raw.outward.fileno(), False)
     text, sent, last = line * 100, 0, time.monotonic()
-    while time.monotonic() < last + seconds:
+    while sent < 1 << 20 and time.monotonic() < last + seconds:
         try:
             count = raw.outward.write(text[sent % len(line) :])
         except BrokenPipeError:
