@@ -1,9 +1,11 @@
 """Sessions: each call and each error, clients that come, go and misbehave, and programs that do."""
 from __future__ import annotations
 
+import contextlib
 import os
 import signal
 import subprocess
+import threading
 import time
 from pathlib import Path
 
@@ -284,6 +286,28 @@ def test_a_client_that_closes_only_what_it_reads(town):
             assert other.entries() == 0
             with session.desk("anna", SECONDS) as desk:
                 assert desk.locate(1, 1).ids == (1,)
+
+
+@pytest.mark.parametrize("reads", (False, True))
+def test_close_ends_beside_a_client_that_never_ends(town, reads):
+    with town.session("anna", "bert") as session, session.desk("bert", SECONDS) as other:
+        raw = Raw(session.path("anna"))
+        if not reads:
+            raw.inward.close()
+        writer = threading.Thread(target=write_on, args=(raw,), daemon=True)
+        writer.start()
+        assert other.merge(1, 2).number == 1
+        begun = time.monotonic()
+        assert session.close() == 1 and time.monotonic() < begun + SECONDS / 4
+        writer.join(SECONDS)
+        assert not writer.is_alive()
+
+
+def write_on(raw: Raw) -> None:
+    """Sends lines for as long as anybody takes them."""
+    with contextlib.suppress(BrokenPipeError):
+        while True:
+            raw.outward.write(b"locate 1 1\n" * 1000)
 
 
 def test_a_client_that_never_reads_keeps_its_own_desk_alone(town):
