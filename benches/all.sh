@@ -1,7 +1,7 @@
 #!/usr/bin/env bash
 # all.sh [--small] [PARCEL_TOOL [PROGRAMS [FOLDER]]]: runs every benchmark that docs/performance.md tells of up to
 # "Many cities", one behind the other, with the built parcel_tool and what prepare.sh makes in the folder PROGRAMS,
-# and writes what each prints to a file of FOLDER, and to `seconds` how long each took: less than twelve minutes on four
+# and writes what each prints to a file of FOLDER, and to `seconds` how long each took: some fourteen minutes on four
 # quiet processors. Nothing else should run meanwhile. Where it is left out, PARCEL_TOOL is what the gate leaves in
 # crates, PROGRAMS is out/bench_programs and FOLDER is out/benches. What takes --workers is run with one, two and four.
 # With --small all of it runs once over small layers, and makes what is missing of those alone: the numbers are worth
