@@ -8,7 +8,7 @@ ghost use Rattle.fabric_core.specs.Tiling.{corner_lists};
 
 use anyhow::{Context, Result, bail};
 use fabric_core::{At, City, Fabric, Layer};
-use geo_exact::{Corner, Unit, area2};
+use geo_exact::{Corner, LIST_CORNERS, Unit, area2};
 use ring_edits::Edit;
 use shp_files::{a_layer_file_is_within_the_limits, read_layer};
 use std::alloc::Allocator;
@@ -83,6 +83,20 @@ fn say_where<R: Print, H: Allocator>(rt: &R, fabric: &Fabric<'_, H>, point: Corn
     Ok(())
 }
 
+/// Prints twice the area of each parcel.
+fn say_areas<R: Print, H: Allocator>(rt: &R, fabric: &Fabric<'_, H>) -> Result<()> {
+    for id in fabric.ids() {
+        if let Some(ring) = fabric.ring(id) {
+            let corners = ring.corners.as_slice();
+            // What `area2` requires. No parcel has so many corners; to test it is the shortest proof.
+            if corners.len() <= LIST_CORNERS {
+                println!(rt; "parcel {id}: {}", area2(corners))?;
+            }
+        }
+    }
+    Ok(())
+}
+
 fn main(rt: HostRuntime) -> Result<()> {
     let mut words = Vec::new(rt.alloc());
     for word in env::args(&rt)? {
@@ -100,11 +114,7 @@ fn main(rt: HostRuntime) -> Result<()> {
     if let Some(point) = Corner::new(100_000, 60_000) {
         say_where(&rt, &fabric, point)?;
     }
-    for id in fabric.ids() {
-        if let Some(ring) = fabric.ring(id) {
-            println!(rt; "parcel {id}: {}", area2(ring.corners.as_slice()))?;
-        }
-    }
+    say_areas(&rt, &fabric)?;
     println!(rt; "all: {}", area2_of_parcels(&fabric))?;
     Ok(())
 }
