@@ -84,7 +84,8 @@ def command(words, profiled):
     import resource
     import time
 
-    from gandovel import cli, tool
+    from gandovel import cli
+    from gandovel.program import tool
 
     asked, spent = tool.run_tool, [0.0]
 

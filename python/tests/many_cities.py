@@ -13,8 +13,8 @@ from typing import Any, Callable, Dict, List, Sequence, Set, Tuple
 
 import numpy as np
 
-from gandovel.layer_files import write_rings
-from gandovel.tool import find_tool
+from gandovel.program.layer_files import write_rings
+from gandovel.program.tool import find_tool
 
 SOURCES = Path(__file__).resolve().parents[1] / "src"
 TOOL = find_tool()

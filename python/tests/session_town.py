@@ -14,8 +14,8 @@ import numpy as np
 import pytest
 
 from gandovel import Session, read_journal
-from gandovel.layer_files import write_rings
-from gandovel.tool import find_tool
+from gandovel.program.layer_files import write_rings
+from gandovel.program.tool import find_tool
 from session_register import Register, Ring, from_least
 
 SECONDS = 120

@@ -7,8 +7,8 @@ from typing import Union
 import geopandas as gpd
 from shapely.geometry import box
 
-from gandovel.gpkg import write_layers
-from gandovel.styles import STYLES
+from gandovel.out.gpkg import write_layers
+from gandovel.out.styles import STYLES
 
 CRS = 25832
 

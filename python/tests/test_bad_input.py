@@ -12,12 +12,12 @@ import pytest
 from shapely.geometry import LineString, Polygon, box
 
 import gandovel as gv
-from gandovel import tool
+from gandovel.program import tool
 from gandovel.large import is_large
-from gandovel.grid import twice_area
-from gandovel.layer_files import read_rings, write_rings
-from gandovel.limits import MOST_CORNERS, too_large
-from gandovel.prepared import Island, Rows
+from gandovel.exact.grid import twice_area
+from gandovel.program.layer_files import read_rings, write_rings
+from gandovel.program.limits import MOST_CORNERS, too_large
+from gandovel.reading.prepared import Island, Rows
 from test_register import SOURCES, command
 
 CRS = 25832

@@ -15,7 +15,7 @@ import geopandas as gpd
 import pytest
 from shapely.geometry import box
 
-from gandovel import tool
+from gandovel.program import tool
 
 RUNS = Path(__file__).resolve().parents[2] / "runs"
 sys.path.insert(0, str(RUNS))

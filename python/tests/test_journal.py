@@ -13,7 +13,7 @@ from hypothesis import strategies as st
 
 import gandovel as gv
 from gandovel.cli import main
-from gandovel.journals import Chain, Said, changes_of, journal_of, said_of
+from gandovel.live.journals import Chain, Said, changes_of, journal_of, said_of
 from session_town import FULL
 from test_session_journal import damaged
 

@@ -21,14 +21,14 @@ from shapely.geometry import Point, Polygon
 import gandovel
 from gandovel import Refused
 from gandovel.cli import main
-from gandovel.faults import twice_area
+from gandovel.faults.polygons import twice_area
 from gandovel.large import Cutting, cut_by, is_large
 from gandovel.large import compose, cutting, frames, runs, tiles, verdict
 from gandovel.large.cutting import cut, partition_faults
 from gandovel.large.verdict import Open, check_island, districts_of
-from gandovel.noding import touches
-from gandovel.report import report
-from gandovel.rounds import filled
+from gandovel.exact.noding import touches
+from gandovel.out.report import report
+from gandovel.program.untiled_overlays import filled
 from registers import register
 
 LONG = bool(os.environ.get("GANDOVEL_LONG"))
@@ -498,7 +498,7 @@ def test_edges_that_cancel_in_parts():
 
 def test_a_large_geopackage_is_read_as_fiona_reads_it(tmp_path, monkeypatch):
     from gandovel.large import reading
-    from gandovel.reading import frame_of
+    from gandovel.reading.sources import frame_of
 
     layer = frame(grid(6, 6)).assign(value=np.arange(36) / 7, count=range(36), text=[None, *"ab" * 17, "ä"])
     layer.to_file(tmp_path / "layer.gpkg", layer="layer", driver="GPKG")

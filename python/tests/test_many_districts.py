@@ -15,7 +15,7 @@ import numpy as np
 import pytest
 from shapely.geometry import Polygon
 
-from gandovel.layer_files import read_rings, write_rings
+from gandovel.program.layer_files import read_rings, write_rings
 from gandovel.many import run_many
 from gandovel.many.rings import DistrictLayer, NoRing
 from gandovel.many.summary import Verdict, whole_of

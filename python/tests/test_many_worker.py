@@ -155,13 +155,13 @@ def test_what_is_imported_for_many_cities():
 
 
 def test_the_names_of_the_package():
-    import gandovel.back
-    import gandovel.prepare
-    import gandovel.report
+    import gandovel.out.exports
+    import gandovel.reading.prepare
+    import gandovel.out.report
 
     assert sorted(gandovel._MODULES) == gandovel.__all__ == sorted(gandovel.__all__)
     assert all(callable(getattr(gandovel, name)) for name in gandovel.__all__)
-    assert gandovel.report is sys.modules["gandovel.report"].report
+    assert gandovel.report is sys.modules["gandovel.out.report"].report
     with pytest.raises(AttributeError, match="no attribute 'nothing'"):
         gandovel.nothing
 

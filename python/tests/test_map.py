@@ -15,8 +15,8 @@ import numpy as np
 import pytest
 from gandovel.cli import main
 from gandovel.errors import Refused
-from gandovel.gpkg import write_layers
-from gandovel.map import _numbers, drawing_parts, page_of, write_map
+from gandovel.out.gpkg import write_layers
+from gandovel.out.map import _numbers, drawing_parts, page_of, write_map
 from gandovel.shapes import polygons_of
 from hypothesis import given, settings
 from hypothesis import strategies as st

@@ -11,10 +11,10 @@ from shapely.errors import TopologicalError
 from shapely.geometry import MultiPoint, Polygon
 
 import gandovel as gv
-from gandovel.faults import faults_of, twice_area
-from gandovel.grid import twice_area as ring_area
-from gandovel.holes import cut_holes
-from gandovel.noding import points_of
+from gandovel.faults.polygons import faults_of, twice_area
+from gandovel.exact.grid import twice_area as ring_area
+from gandovel.exact.holes import cut_holes
+from gandovel.exact.noding import points_of
 from gandovel.shapes import _common_parts, bounds_of, box_of, common_parts, shapes_of
 
 FEW = settings(max_examples=12, deadline=None, suppress_health_check=list(HealthCheck))

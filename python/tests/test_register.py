@@ -201,7 +201,7 @@ def test_edits_carry_the_numbers_of_those_they_came_from(whole):
 
 
 def test_a_corner_that_is_taken_out_is_given_in_millimetres(whole):
-    from gandovel.edits import lines_of
+    from gandovel.program.edits import lines_of
 
     scale = int(whole.scale)
     assert lines_of(whole, [gv.Straighten((30.0, 0.5))]) == [f"straighten {30 * scale} {scale // 2}"]
@@ -210,7 +210,7 @@ def test_a_corner_that_is_taken_out_is_given_in_millimetres(whole):
 def test_back_from_an_export(whole, tmp_path):
     whole.save(tmp_path / "work")
     (tmp_path / "edits.txt").write_text("merge 1 2\n")
-    from gandovel.tool import export
+    from gandovel.program.tool import export
 
     export(tmp_path / "work/city.shp", tmp_path / "work/parcels.shp", tmp_path / "new", [tmp_path / "edits.txt"])
     told = command("back", "new.shp", "--rows", "work/rows.csv", "--out", "new.gpkg", cwd=tmp_path)

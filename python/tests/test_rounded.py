@@ -11,7 +11,7 @@ from hypothesis import HealthCheck, given, settings, strategies as st
 from shapely.geometry import Polygon, box
 
 import gandovel as gv
-from gandovel.touching import step_of
+from gandovel.reading.touching import step_of
 from registers import register
 from slanted import slanted
 

@@ -13,8 +13,8 @@ import numpy as np
 import pytest
 
 import gandovel as gv
-from gandovel.layer_files import read_rings, write_rings
-from gandovel.tool import find_tool
+from gandovel.program.layer_files import read_rings, write_rings
+from gandovel.program.tool import find_tool
 from session_register import Register, area2, area2_west_of
 from session_town import HALVES, SECONDS, SQUARE, Raw, Town, program
 

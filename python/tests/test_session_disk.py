@@ -11,7 +11,7 @@ from typing import Iterator, List
 import pytest
 
 import gandovel as gv
-from gandovel.journals import journal_of
+from gandovel.live.journals import journal_of
 from session_town import FULL, SECONDS, Town, preload, preloaded
 
 pytestmark = pytest.mark.usefixtures("in_time")

@@ -17,7 +17,7 @@ from typing import Dict, Iterator, List
 import pytest
 
 import gandovel as gv
-from gandovel.tool import find_tool
+from gandovel.program.tool import find_tool
 from session_town import SECONDS, Raw, Town
 
 pytestmark = pytest.mark.usefixtures("in_time")

@@ -14,9 +14,9 @@ from typing import List
 import pytest
 
 import gandovel as gv
-from gandovel.journals import journal_of
-from gandovel.layer_files import read_rings
-from gandovel.tool import ask, export, find_tool
+from gandovel.live.journals import journal_of
+from gandovel.program.layer_files import read_rings
+from gandovel.program.tool import ask, export, find_tool
 from session_clerks import Heard, Said, accepted_of, compare, edits_of, started
 from session_register import Register
 from session_town import FULL, SECONDS, Town, program

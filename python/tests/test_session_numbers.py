@@ -14,7 +14,7 @@ from typing import Dict, Iterator, List, Optional, Sequence, Tuple, Type
 import pytest
 
 import gandovel as gv
-from gandovel.tool import ask
+from gandovel.program.tool import ask
 from session_clerks import answer_of
 from session_register import MOST_ENTRIES, Refusal, Register, Ring, area2, corners_of, grid_city
 from session_town import FULL, SECONDS, Raw, Town

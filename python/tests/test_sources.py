@@ -16,7 +16,7 @@ import pytest
 from shapely.geometry import LineString, MultiPolygon, Point, Polygon, box
 
 import gandovel as gv
-from gandovel.reading import read_layer
+from gandovel.reading.sources import read_layer
 from test_register import command
 
 EAST, NORTH = 561_000, 5_934_000

@@ -16,10 +16,10 @@ from shapely.affinity import translate
 from shapely.geometry import MultiPolygon, Polygon, box
 
 import gandovel as gv
-from gandovel.answer import answer_of
+from gandovel.out.report_formats import answer_of
 from gandovel.cli import main
 from gandovel.large import Cutting, cut_by, frames
-from gandovel.zone_areas import ROUNDED, proved
+from gandovel.program.zone_areas import ROUNDED, proved
 from test_common_area import clipped_area2
 from test_properties import SLANTS, STEPS, tiling
 

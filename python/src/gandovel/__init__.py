@@ -9,14 +9,9 @@ it until a city is refused.
 """
 import sys
 from importlib import import_module
-from types import ModuleType
-from typing import TYPE_CHECKING, Any, Dict
+from typing import TYPE_CHECKING, Any, Dict, List
 
 if TYPE_CHECKING:
-    from .answers import Accepted, Outline, Overlaps, Place, Tiling
-    from .api import apply, area, check, locate, overlay
-    from .back import back
-    from .edits import Insert, Merge, Move, Split, Straighten
     from .errors import (
         BadAnswer,
         CardsMissing,
@@ -38,12 +33,16 @@ if TYPE_CHECKING:
         SessionError,
         TimedOut,
     )
-    from .journals import Journal, JournalRecord, read_journal
-    from .mend import Mended, mend
-    from .prepare import prepare
-    from .prepared import Prepared, load
-    from .report import Report, report
-    from .session import Desk, Session
+    from .faults.mend import Mended, mend
+    from .live.answers import Accepted, Outline, Overlaps, Place, Tiling
+    from .live.journals import Journal, JournalRecord, read_journal
+    from .live.session import Desk, Session
+    from .out.exports import back
+    from .out.report import Report, report
+    from .program.commands import apply, area, check, locate, overlay
+    from .program.edits import Insert, Merge, Move, Split, Straighten
+    from .reading.prepare import prepare
+    from .reading.prepared import Prepared, load
 
 __all__ = [
     "Accepted",
@@ -97,45 +96,37 @@ __all__ = [
 __version__ = "1.1.0"
 
 _NAMES = {
-    "answers": "Accepted Outline Overlaps Place Tiling",
-    "api": "apply area check locate overlay",
-    "back": "back",
-    "edits": "Insert Merge Move Split Straighten",
+    "faults.mend": "Mended mend",
     "errors": "BadAnswer CardsMissing DeskTaken JournalBroken JournalInUse JournalRefused NoCard NoMemory NoSuchLine "
     "NoVersion NoWindow NoZones OperatorsOnly ProgramEnded Refused RefusedEdit SessionClosed SessionError "
     "TimedOut",
-    "journals": "Journal JournalRecord read_journal",
-    "mend": "Mended mend",
-    "prepare": "prepare",
-    "prepared": "Prepared load",
-    "report": "Report report",
-    "session": "Desk Session",
+    "live.answers": "Accepted Outline Overlaps Place Tiling",
+    "live.journals": "Journal JournalRecord read_journal",
+    "live.session": "Desk Session",
+    "out.exports": "back",
+    "out.report": "Report report",
+    "program.commands": "apply area check locate overlay",
+    "program.edits": "Insert Merge Move Split Straighten",
+    "reading.prepare": "prepare",
+    "reading.prepared": "Prepared load",
 }
 _MODULES: Dict[str, str] = {name: module for module, names in _NAMES.items() for name in names.split()}
 """The module that has each name."""
 
 
-class _Package(ModuleType):
-    """The package itself: `prepare`, `report` and `back` are its functions, though modules have these names, too."""
-
-    def __setattr__(self, name: str, value: Any) -> None:
-        if isinstance(value, ModuleType) and _MODULES.get(name) == name:
-            value = getattr(value, name)
-        super().__setattr__(name, value)
-
-    def __getattr__(self, name: str) -> Any:
-        if name not in _MODULES:
-            raise AttributeError(f"module {self.__name__!r} has no attribute {name!r}")
-        value = getattr(import_module(f".{_MODULES[name]}", self.__name__), name)
-        if "pandas" in sys.modules:
-            import_module(".accessor", self.__name__)
-        setattr(self, name, value)
-        return value
-
-    def __dir__(self) -> Any:
-        return sorted({*super().__dir__(), *__all__})
+def __getattr__(name: str) -> Any:
+    if name not in _MODULES:
+        raise AttributeError(f"module {__name__!r} has no attribute {name!r}")
+    value = getattr(import_module(f".{_MODULES[name]}", __name__), name)
+    if "pandas" in sys.modules:
+        import_module(".accessor", __name__)
+    globals()[name] = value
+    return value
 
 
-sys.modules[__name__].__class__ = _Package
+def __dir__() -> List[str]:
+    return sorted({*globals(), *__all__})
+
+
 if "pandas" in sys.modules:
     import_module(".accessor", __name__)

@@ -9,10 +9,10 @@ from typing import Optional, Union
 import geopandas as gpd
 import pandas as pd
 
-from .prepare import prepare
-from .prepared import Prepared
-from .reading import Source
-from .report import Report, report
+from .out.report import Report, report
+from .reading.prepare import prepare
+from .reading.prepared import Prepared
+from .reading.sources import Source
 
 
 @pd.api.extensions.register_dataframe_accessor("gandovel")

@@ -11,14 +11,14 @@ from typing import TYPE_CHECKING, Any, Callable, Dict, List, Optional
 
 from . import __version__
 from .errors import Refused
-from .journal_command import add_journal, run_journal
 from .large.options import add_options, cut_as_told
+from .live.journal_command import add_journal, run_journal
 from .many.command import add_command, run_command
 from .serve.command import add_commands, run_backup, run_serve
 
 if TYPE_CHECKING:
-    from .prepared import Prepared
     from .progress import Progress
+    from .reading.prepared import Prepared
 
 ENDED_BY_USER = 130
 """The status of a command that its user interrupted."""
@@ -111,8 +111,8 @@ def parser() -> argparse.ArgumentParser:
 
 def _prepared(options: argparse.Namespace, progress: Progress) -> Prepared:
     """The register that is asked about: a folder that `prepare` wrote, or layers that are prepared now."""
-    from .prepare import prepare
-    from .prepared import load
+    from .reading.prepare import prepare
+    from .reading.prepared import load
 
     if options.command != "prepare" and os.path.isfile(os.path.join(options.source, "prepared.json")):
         return load(options.source)
@@ -148,8 +148,8 @@ def _lost(prepared: Prepared) -> None:
 
 
 def _prepare(options: argparse.Namespace) -> int:
-    from .prepared import test_own
     from .progress import Progress
+    from .reading.prepared import test_own
 
     test_own(Path(options.out))
     progress = Progress(6, shown=True)
@@ -167,10 +167,10 @@ def _prepare(options: argparse.Namespace) -> int:
 
 def _report(options: argparse.Namespace) -> int:
     """`check` and `report`."""
-    from .answer import answer_of, faults_csv, json_of
-    from .gpkg import test_name
+    from .out.gpkg import test_name
+    from .out.report import report
+    from .out.report_formats import answer_of, faults_csv, json_of
     from .progress import Progress
-    from .report import report
 
     out = getattr(options, "out", None)
     if options.command == "report" and out is None and not (options.json or options.csv):
@@ -200,10 +200,10 @@ def _report(options: argparse.Namespace) -> int:
 
 
 def _overlay(options: argparse.Namespace) -> int:
-    from .answer import csv_of, json_of
-    from .api import overlay
+    from .out.report_formats import csv_of, json_of
+    from .program.commands import overlay
+    from .program.tool import program_version
     from .progress import Progress
-    from .tool import program_version
 
     prepared = _prepared(options, Progress(shown=True))
     frame = overlay(prepared)
@@ -222,12 +222,12 @@ def _overlay(options: argparse.Namespace) -> int:
 
 
 def _locate(options: argparse.Namespace) -> int:
-    from .answer import csv_of, json_of
-    from .api import locate
-    from .points import points_at
+    from .out.report_formats import csv_of, json_of
+    from .program.commands import locate
+    from .program.tool import program_version
     from .progress import Progress
-    from .reading import read_layer
-    from .tool import program_version
+    from .reading.points import points_at
+    from .reading.sources import read_layer
 
     prepared = _prepared(options, Progress(shown=True))
     if options.points is not None:
@@ -252,9 +252,9 @@ def _locate(options: argparse.Namespace) -> int:
 
 
 def _mend(options: argparse.Namespace) -> int:
-    from .answer import csv_of, json_of
-    from .gpkg import test_name
-    from .mend import mend
+    from .faults.mend import mend
+    from .out.gpkg import test_name
+    from .out.report_formats import csv_of, json_of
     from .progress import Progress
 
     test_name(options.out, _read(options))
@@ -276,8 +276,8 @@ def _mend(options: argparse.Namespace) -> int:
 
 
 def _map(options: argparse.Namespace) -> int:
-    from .gpkg import test_not_read
-    from .map import write_map
+    from .out.gpkg import test_not_read
+    from .out.map import write_map
 
     test_not_read(options.out, [options.report])
     if not Path(options.report).is_file():
@@ -287,8 +287,8 @@ def _map(options: argparse.Namespace) -> int:
 
 
 def _back(options: argparse.Namespace) -> int:
-    from .back import back_from_files
-    from .gpkg import test_name
+    from .out.exports import back_from_files
+    from .out.gpkg import test_name
 
     test_name(options.out)
     frame = back_from_files(options.export, options.rows, options.out)
@@ -299,7 +299,7 @@ def _back(options: argparse.Namespace) -> int:
 def _refused(options: argparse.Namespace, refused: Refused) -> int:
     """Says what is refused, on standard output too where a program asked."""
     if getattr(options, "json", False):
-        from .answer import json_of, refusal_of
+        from .out.report_formats import json_of, refusal_of
 
         print(json_of(refusal_of(refused)))
     print(f"error: {refused}", file=sys.stderr)

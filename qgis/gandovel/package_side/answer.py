@@ -17,12 +17,12 @@ import geopandas as gpd
 import numpy as np
 import pandas as pd
 from gandovel.errors import Refused, raise_all
-from gandovel.gpkg import write_layers
-from gandovel.grid import without_straight
-from gandovel.prepared import Island, Prepared
+from gandovel.out.gpkg import write_layers
+from gandovel.exact.grid import without_straight
+from gandovel.reading.prepared import Island, Prepared
 from gandovel.progress import Progress
-from gandovel.rounds import area_polygons
-from gandovel.reading import read_layer
+from gandovel.program.untiled_overlays import area_polygons
+from gandovel.reading.sources import read_layer
 from shapely.geometry import MultiPolygon
 
 Request = Dict[str, Any]

@@ -12,7 +12,7 @@ from typing import List, Sequence
 import numpy as np
 
 from ..arrays import Array
-from ..noding import points_of, touches
+from ..exact.noding import points_of, touches
 
 
 def added_up(several: Sequence[Array], rings: Sequence[Array]) -> Array:

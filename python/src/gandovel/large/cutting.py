@@ -18,8 +18,8 @@ from shapely.ops import polygonize, unary_union
 from shapely.prepared import prep
 
 from ..arrays import Array
-from ..grid import edges_left, twice_area, without_straight
-from ..noding import points_of
+from ..exact.grid import edges_left, twice_area, without_straight
+from ..exact.noding import points_of
 from ..shapes import polygons_of
 from . import MOST_IN_ALL, MOST_RINGS
 

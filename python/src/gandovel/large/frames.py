@@ -10,8 +10,8 @@ from typing import List, Sequence, Tuple
 import numpy as np
 
 from ..arrays import Array
-from ..layer_files import write_rings
-from ..rounds import filled
+from ..program.layer_files import write_rings
+from ..program.untiled_overlays import filled
 from . import A_DISTRICT, MOST_IN_ALL
 from .cutting import boxes_of
 from .runs import Run

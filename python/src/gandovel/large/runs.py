@@ -12,7 +12,7 @@ from pathlib import Path
 from typing import Any, Callable, Dict, List, Optional, Sequence, Tuple
 
 from ..errors import Refused
-from ..tool import find_tool, run_tool
+from ..program.tool import find_tool, run_tool
 from . import Cutting
 
 
@@ -78,7 +78,7 @@ def _by_engine(runs: Sequence[Run], how: Cutting) -> List[Said]:
 
 
 def _from_engine(result: Any, lost: Optional[Tuple[str, str]]) -> Said:
-    from ..tool import refusal
+    from ..program.tool import refusal
 
     if result is None:
         return Said(lost=" ".join(lost or ("T4", "the task left nothing")))

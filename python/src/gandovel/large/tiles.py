@@ -7,7 +7,7 @@ from typing import Callable, Union
 import numpy as np
 
 from ..arrays import Array
-from ..sources import Loops, signed_areas
+from ..reading.loops import Loops, signed_areas
 from . import how_cut
 from .runs import forked, jobs_of
 

@@ -14,12 +14,12 @@ import numpy as np
 
 from ..arrays import Array
 from ..errors import Refused
-from ..grid import twice_area
-from ..layer_files import write_rings
-from ..prepared import Island
-from ..rounds import rounds_of
-from ..tool import CheckAnswer, Overlaid, answer_of_check, areas, areas_told, ask
-from ..zone_areas import proved
+from ..exact.grid import twice_area
+from ..program.layer_files import write_rings
+from ..program.tool import CheckAnswer, Overlaid, answer_of_check, areas, areas_told, ask
+from ..program.untiled_overlays import rounds_of
+from ..program.zone_areas import proved
+from ..reading.prepared import Island
 from . import A_DISTRICT, frames, how_cut, is_large
 from .compose import added_up
 from .cutting import Districts, boxes_of, levels_of, partition_faults
@@ -421,7 +421,7 @@ def locate_in_island(island: Island, points: Sequence[Sequence[int]]) -> List[Tu
 
 
 def _located(folder: Path, districts: Districts, places: Array) -> List[Tuple[str, List[int]]]:
-    from ..tool import locate_points
+    from ..program.tool import locate_points
 
     boxes = boxes_of(districts.outlines)
     near = [np.flatnonzero(((places >= box[:2]) & (places <= box[2:])).all(axis=1)) for box in boxes]

@@ -14,9 +14,9 @@ from pyproj.exceptions import CRSError
 from shapely.affinity import scale
 from shapely.geometry import Polygon, shape
 
-from ..faults import faults_of
-from ..gpkg import write_layers
-from ..styles import STYLES
+from ..faults.polygons import faults_of
+from ..out.gpkg import write_layers
+from ..out.styles import STYLES
 from .layers import Cover, Crossing
 from .manifest import Row
 from .results import Result

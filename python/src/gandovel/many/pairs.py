@@ -15,7 +15,7 @@ from typing import Dict, Iterable, Iterator, List, Mapping, Optional, Sequence, 
 import numpy as np
 
 from ..arrays import Array
-from ..grid import twice_area
+from ..exact.grid import twice_area
 from ..large.compose import added_up
 from ..large.cutting import boxes_of
 from ..large.frames import near_rows, shares_of, write_overlay

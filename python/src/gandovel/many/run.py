@@ -358,7 +358,7 @@ class _Run:
         zoned = [row for row in rows if row.name in above and row.zones is not None and row.city is not None]
         if not zoned:
             return {}
-        from ..grid import twice_area
+        from ..exact.grid import twice_area
         from .layers import rings_of
 
         rings = {row.name: rings_of(str(row.city), row.unit) for row in zoned}

@@ -10,7 +10,7 @@ from dataclasses import dataclass, field, replace
 from typing import TYPE_CHECKING, AbstractSet, Any, Dict, FrozenSet, List, Mapping, Optional, Sequence, Tuple
 
 from ..errors import Refused
-from ..tool import refusal
+from ..program.tool import refusal
 from .manifest import Row, by_depth
 from .results import Result
 

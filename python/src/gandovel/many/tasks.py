@@ -10,7 +10,7 @@ from pathlib import Path
 from typing import Any, Callable, Dict, Iterable, List, Optional, Sequence, Tuple
 
 from ..errors import Refused
-from ..tool import find_tool
+from ..program.tool import find_tool
 from .manifest import Row
 from .rings import files_of, polygon_of
 from .worker import SETTLED, checked

@@ -16,7 +16,7 @@ from starlette.requests import ClientDisconnect
 from starlette.staticfiles import StaticFiles
 
 from ..errors import JournalBroken, NoMemory, NoSuchLine, NoZones, Refused, RefusedEdit, SessionError
-from ..journals import MOST_WORD, Said
+from ..live.journals import MOST_WORD, Said
 from .changes import told_as_events
 from .crs import CRS84
 from .edit_bodies import EditBody, edit_of
@@ -27,7 +27,7 @@ from .metrics import Metrics
 from .pages import HERE, html_of, openapi_html
 from .register import Register
 
-MAP = HERE.parents[1] / "map_page"
+MAP = HERE.parents[1] / "out/map_page"
 """The drawing of parcels, with Leaflet."""
 MOST_ENTRIES, MOST_POINTS = 10_000, 10_000
 _KEY = re.compile(r"[\x21-\x7e]{1,100}")

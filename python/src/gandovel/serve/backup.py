@@ -8,7 +8,7 @@ from pathlib import Path
 from typing import Dict, List
 
 from ..errors import Refused
-from ..journals import journal_of
+from ..live.journals import journal_of
 
 JOURNAL, LAYER, SUMS = "register.journal", "layer", "SHA256SUMS"
 

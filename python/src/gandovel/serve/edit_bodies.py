@@ -7,8 +7,8 @@ from typing import TYPE_CHECKING, Annotated, Any, List, Literal, Optional, Tuple
 
 from pydantic import BaseModel, Extra, Field, ValidationError, conint, parse_obj_as
 
-from .. import edits
-from ..journals import FARTHEST, MOST_WORD
+from ..live.journals import FARTHEST, MOST_WORD
+from ..program import edits
 from .faults import BadRequest
 
 MOST_WHY = MOST_WORD

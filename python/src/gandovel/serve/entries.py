@@ -8,7 +8,7 @@ from typing import Any, Dict, List, NamedTuple, Optional, Sequence, Tuple
 import numpy as np
 
 from ..arrays import Array
-from ..journals import JournalRecord, Said
+from ..live.journals import JournalRecord, Said
 
 NEVER = np.iinfo(np.int64).max
 """The entry that takes out a row which is there still."""

@@ -12,7 +12,7 @@ from pyproj.exceptions import CRSError
 
 from ..arrays import Array
 from ..errors import Refused
-from ..prepared import OUT, OUT_ROW, Prepared, load
+from ..reading.prepared import OUT, OUT_ROW, Prepared, load
 from .crs import Projection
 from .entries import Entry, Versions
 

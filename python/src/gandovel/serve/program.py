@@ -12,10 +12,10 @@ import tempfile
 from pathlib import Path
 from typing import IO, List, Optional, Sequence, Tuple
 
-from ..answers import count_of, start_refused, test_error
 from ..errors import JournalInUse, ProgramEnded, Refused, TimedOut
-from ..tool import find_tool
-from ..wires import limit_of, open_pipes
+from ..live.answers import count_of, start_refused, test_error
+from ..live.pipes import limit_of, open_pipes
+from ..program.tool import find_tool
 from .lines import Lines
 
 PATIENCE = 5.0

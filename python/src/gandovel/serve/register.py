@@ -14,10 +14,10 @@ from typing import Any, Deque, Dict, List, Optional, Sequence, Set, Tuple
 
 import numpy as np
 
-from ..answers import Accepted, Overlaps, Place, accepted_of, count_of, overlaps_of, place_of, test_error
 from ..arrays import Array
 from ..errors import BadAnswer, JournalBroken, JournalInUse, JournalRefused, NoMemory, NoZones, ProgramEnded, Refused
-from ..journals import JournalRecord
+from ..live.answers import Accepted, Overlaps, Place, accepted_of, count_of, overlaps_of, place_of, test_error
+from ..live.journals import JournalRecord
 from .entries import Asked, Entry, Versions
 from .faults import KeyReused, NotServing, Stale, Unknown
 from .layer import Layer

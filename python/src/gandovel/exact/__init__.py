@@ -1,0 +1,1 @@
+"""Geometry in whole millimetres, exact: noding, holes, big rings, the city's outline."""

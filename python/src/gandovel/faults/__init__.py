@@ -1,0 +1,1 @@
+"""Gaps and overlaps as polygons, and slivers closed."""

@@ -1,0 +1,214 @@
+"""Journals of sessions, read and checked without their layer.
+
+    for record in gandovel.read_journal("register.txt").records:
+        print(record.number, record.time, record.who, record.edit)
+
+The form is that of `docs/cli.md`: a header that names the layer, and two lines for each edit, chained by SHA-256.
+"""
+from __future__ import annotations
+
+import hashlib
+import os
+import re
+from dataclasses import dataclass
+from datetime import datetime, timezone
+from typing import List, NamedTuple, Optional, Tuple
+
+from ..errors import JournalRefused
+from ..program.tool import PathLike
+
+MOST_WORD = 200
+"""Bytes of the client's own word in a record."""
+FARTHEST = 100_000_000_000
+"""How far from 0 a coordinate may lie, in mm."""
+MOST_CLERK = 2**32 - 1
+_HEADER = re.compile(rb"# gandovel journal 1 mm ([0-9a-f]{64})")
+_NUMBER = rb"(?:0|[1-9][0-9]{0,18})"
+_STAMP = re.compile(
+    rb"# (" + _NUMBER + rb") (" + _NUMBER + rb") (\d{4}-\d\d-\d\dT\d\d:\d\d:\d\dZ) (?:(.+) )?([0-9a-f]{64})", re.DOTALL
+)
+_TORN_STAMP = re.compile(rb"# [^ ]+ [0-9]{1,19} [^ ]* (?:.* )?.{64}", re.DOTALL)
+"""The first line of a record that a program takes for one: behind it the second may be missing."""
+_CORNER = rb"(?: (?:0|-?[1-9][0-9]{0,11}) (?:0|-?[1-9][0-9]{0,11}))"
+_EDIT = re.compile(
+    b"split ID(?:CORNER)+|merge ID ID|move ID ID(?:CORNER)+|insert(?:CORNER){3}|straightenCORNER".replace(
+        b"ID", _NUMBER
+    ).replace(b"CORNER", _CORNER)
+)
+_WORD = re.compile(r"(.*?)(?: #([!-~]{1,100}))?(?:, (.*))?", re.DOTALL)
+_PARCELS = {"split": (1, 2), "merge": (2, 1), "move": (2, 2), "insert": (0, 0), "straighten": (0, 0)}
+"""How many parcels an edit names, and how many ids it brings. The last two leave all ids as they are."""
+
+
+class Said(NamedTuple):
+    """The client's own word, taken apart: `NAME #KEY, WHY`. `gandovel serve` writes it; a word of others is read alike.
+
+    `key` is the one by which a client asks again for an edit whose answer it lost.
+    """
+
+    name: str
+    why: str = ""
+    key: Optional[str] = None
+
+    @property
+    def word(self) -> str:
+        """The word as a journal has it."""
+        return f"{self.name}{'' if self.key is None else f' #{self.key}'}{f', {self.why}' if self.why else ''}"
+
+
+def said_of(word: str) -> Said:
+    """A word of a journal, taken apart: the name is what stands before the key and the first comma with a space."""
+    found = _WORD.fullmatch(word)
+    assert found is not None
+    return Said(found[1], found[3] or "", found[2])
+
+
+@dataclass(frozen=True)
+class JournalRecord:
+    """An edit that a session accepted: its number from 1, its clerk, its time (UTC), who and why, and its line."""
+
+    number: int
+    clerk: int
+    time: datetime
+    who: str
+    edit: str
+
+    @property
+    def said(self) -> Said:
+        """Who made the edit, why, and by which key, as `who` says it."""
+        return said_of(self.who)
+
+    @property
+    def moment(self) -> str:
+        """Its time as the journal has it: `2026-11-28T11:34:48Z`."""
+        return self.time.strftime("%Y-%m-%dT%H:%M:%SZ")
+
+
+@dataclass(frozen=True)
+class Journal:
+    """What a journal says: the SHA-256 of its layer, its records, and how many bytes are torn behind them.
+
+    `digest` is that of the last record, which stands for all of them.
+    """
+
+    layer: str
+    records: Tuple[JournalRecord, ...]
+    torn: int
+    digest: str
+
+
+class Chain:
+    """Reads a journal record by record as its bytes come, and checks each against the one before it."""
+
+    def __init__(self) -> None:
+        self.layer = self.digest = ""
+        self.count = 0
+        self.rest = b""
+        """Bytes behind the last whole record."""
+
+    def feed(self, part: bytes) -> List[JournalRecord]:
+        """Takes in the bytes that come next: the records that are whole with them. Raises `JournalRefused`.
+
+        A record is whole with its second line feed. Nothing may be fed behind a refusal.
+        """
+        lines = (self.rest + part).split(b"\n")
+        at, found = 0, []
+        if not self.layer and len(lines) > 1:
+            header = _HEADER.fullmatch(lines[0])
+            if not header:
+                raise JournalRefused("no journal", "")
+            self.layer = self.digest = header[1].decode()
+            at = 1
+        while self.layer and at + 2 < len(lines):
+            found.append(self._record(lines[at], lines[at + 1]))
+            at += 2
+        self.rest = b"\n".join(lines[at:])
+        return found
+
+    def end(self) -> int:
+        """How many bytes of a further record's beginning stand at the end. Raises `JournalRefused` where they are
+        none."""
+        if not self.layer:
+            raise JournalRefused("no journal", "")
+        stamp, line_feed, _ = self.rest.partition(b"\n")
+        start = b"# %d " % (self.count + 1)
+        is_beginning = stamp.startswith(start) or (start.startswith(stamp) and not line_feed)
+        if not is_beginning or (line_feed and not _TORN_STAMP.fullmatch(stamp)):
+            raise self._changed()
+        return len(self.rest)
+
+    def _record(self, stamp: bytes, edit: bytes) -> JournalRecord:
+        """The record of two lines behind the one before."""
+        found = _STAMP.fullmatch(stamp)
+        digest = hashlib.sha256(self.digest.encode() + stamp[:-64] + edit + b"\n").hexdigest()
+        if not found or int(found[1]) != self.count + 1 or found[5].decode() != digest or not _is_edit(edit):
+            raise self._changed()
+        try:
+            time = datetime.fromisoformat(found[3].decode()[:-1]).replace(tzinfo=timezone.utc)
+            who = (found[4] or b"").decode("utf-8")
+        except ValueError:
+            raise self._changed() from None
+        if int(found[2]) > MOST_CLERK or len(who.encode()) > MOST_WORD or any(map(_is_control, who)):
+            raise self._changed()
+        self.count, self.digest = self.count + 1, digest
+        return JournalRecord(self.count, int(found[2]), time, who, edit.decode("ascii"))
+
+    def _changed(self) -> JournalRefused:
+        return JournalRefused("changed", "", 2 * self.count + 2)
+
+
+def read_journal(path: PathLike) -> Journal:
+    """Reads the journal at a path, and checks that each record stands as it was written.
+
+    A beginning of a record at the end is counted as `torn`; a running session may be writing it. Raises
+    `JournalRefused`: S1 where the file can't be read, "no journal", or "changed" with the record's first line.
+    """
+    try:
+        with open(path, "rb") as file:
+            text = file.read()
+    except OSError as fault:
+        raise JournalRefused("S1", f"{os.fspath(path)}: {fault.strerror}") from fault
+    return journal_of(text)
+
+
+def journal_of(text: bytes) -> Journal:
+    """What the text of a journal says. Raises as `read_journal`."""
+    chain = Chain()
+    records = chain.feed(text)
+    return Journal(chain.layer, tuple(records), chain.end(), chain.digest)
+
+
+def _is_edit(line: bytes) -> bool:
+    """Whether a line is an edit as a session writes it: in one form, and within the limits."""
+    if not _EDIT.fullmatch(line):
+        return False
+    kind, *words = line.split(b" ")
+    return all(abs(int(word)) <= FARTHEST for word in words[_PARCELS[kind.decode()][0] :])
+
+
+def _is_control(sign: str) -> bool:
+    return sign < " " or "\x7f" <= sign <= "\x9f"
+
+
+class Change(NamedTuple):
+    """The ids that an edit takes out and brings."""
+
+    out: Tuple[str, ...]
+    new: Tuple[str, ...]
+
+
+def changes_of(journal: Journal, parcels: Optional[int] = None) -> List[Change]:
+    """What each record takes out and brings, as its edit says it.
+
+    New ids go on behind the layer's: with `parcels`, how many parcels the layer has, they are told as they are; without
+    it as +1, +2 .. behind these. Edits of corners leave all ids as they are, and have none here.
+    """
+    found, brought = [], 0
+    for record in journal.records:
+        kind, *words = record.edit.split(" ")
+        named, new = _PARCELS[kind]
+        ids = range(brought + 1, brought + new + 1)
+        brought += new
+        told = (f"+{it}" if parcels is None else str(parcels + it) for it in ids)
+        found.append(Change(tuple(words[:named]), tuple(told)))
+    return found

@@ -1,0 +1,1 @@
+"""What is written for others: reports, GeoPackages, maps, exports, JSON and CSV."""

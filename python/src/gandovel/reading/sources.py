@@ -1,0 +1,193 @@
+"""Sources of layers: paths and whatever else GDAL opens, GeoDataFrames, GeoSeries; and what of them is lost."""
+from __future__ import annotations
+
+import datetime
+import logging
+import os
+import re
+import tempfile
+from pathlib import Path
+from typing import Dict, List, Optional, Tuple, Union
+
+import fiona
+import geopandas as gpd
+import numpy as np
+import pandas as pd
+
+from ..errors import Refused
+from ..large.reading import read_large
+from ..out.gpkg import typed
+
+Source = Union[str, "os.PathLike[str]", gpd.GeoDataFrame, gpd.GeoSeries]
+"""A layer: a path, or text that GDAL opens (`/vsizip/..`, `PG:..`, an URL of a file, `PATH|layername=NAME`), or
+frames."""
+LOG = logging.getLogger("gandovel")
+ANY_DRIVER = {"allow_unsupported_drivers": True}
+"""Fiona opens what GDAL does, and not those formats alone that its own tests try: PostgreSQL is none of them."""
+ANY = ("GeometryCollection", "3D GeometryCollection", "Unknown")
+AREAS = ("Polygon", "MultiPolygon", "3D Polygon", "3D MultiPolygon", *ANY)
+POINTS = ("Point", "3D Point", *ANY)
+
+
+def frame_of(source: Source, role: str, layer: Optional[str] = None) -> gpd.GeoDataFrame:
+    """The layer as a frame of plain columns; `.attrs["lost"]` has a sentence for each thing that is lost.
+
+    Refused P1 where it can't be opened or is torn, or has several layers with areas and none is named; TypeError for
+    what is no source.
+    """
+    if isinstance(source, gpd.GeoDataFrame):
+        return plain(source, role, [])
+    if isinstance(source, gpd.GeoSeries):
+        return plain(gpd.GeoDataFrame(geometry=source.reset_index(drop=True), crs=source.crs), role, [])
+    if isinstance(source, (str, os.PathLike)):
+        return read_layer(source, role, layer)
+    raise TypeError(f"{role}: a path, a GeoDataFrame or a GeoSeries is wanted, and not {type(source).__name__}")
+
+
+def read_layer(source: Union[str, "os.PathLike[str]"], role: str, layer: Optional[str] = None) -> gpd.GeoDataFrame:
+    """A layer of what GDAL opens. Refused (P1) where it can't be opened or is torn, or where a layer is to be named."""
+    path, layer = _address(os.fspath(source), layer)
+    if not re.match(r"/vsi|[A-Za-z][A-Za-z0-9+]+:", path) and not os.path.exists(path):
+        raise Refused("P1", f"{path or 'a layer without a name'} is not there", role=role)
+    try:
+        name = _layer_name(path, layer, role)
+        with fiona.open(path, layer=name, **ANY_DRIVER) as opened:
+            types = dict(opened.schema["properties"])
+        frame = read_large(path, name)
+        if frame is None:
+            frame = gpd.read_file(path, layer=name, **ANY_DRIVER)
+    except Refused:
+        raise
+    except fiona.errors.UnsupportedGeometryTypeError:
+        return _straightened(path, layer, role)
+    except Exception as fault:
+        raise Refused("P1", f"{source} can't be read: {' '.join(str(fault).split())}", role=role) from fault
+    if not isinstance(frame, gpd.GeoDataFrame):
+        raise Refused("P1", f"{source} has no geometry", role=role)
+    lost, truths = _beyond_fiona(path, name)
+    return plain(typed(frame, {**types, **truths}), role, lost)
+
+
+def _address(text: str, layer: Optional[str]) -> Tuple[str, Optional[str]]:
+    """What GDAL opens, and the layer's name where one is told: `PATH|layername=NAME` is as QGIS writes it."""
+    path, _, rest = text.partition("|layername=")
+    if re.match(r"(https?|ftp)://", path):
+        path = f"/vsicurl/{path}"
+    return path, layer or rest.partition("|")[0] or None
+
+
+def _layer_name(path: str, layer: Optional[str], role: str) -> str:
+    """The layer that is told, or the only one that has areas (points, for points). Refused P1 where there is a
+    choice."""
+    names = fiona.listlayers(path)
+    if layer is not None:
+        if layer not in names:
+            raise Refused("P1", f"{path} has no layer {layer}; there are {', '.join(names)}", role=role)
+        return layer
+    if len(names) == 1:
+        return str(names[0])
+    fitting = [name for name in names if _may_have(POINTS if role == "points" else AREAS, path, name)]
+    if len(fitting) != 1:
+        option = "--layer" if role == "parcels" else f"--{role}-layer"
+        text = f"{path} has {len(names)} layers: name one by {option} NAME, or as PATH|layername=NAME"
+        raise Refused("P1", f"{text}; there are {', '.join(fitting or names)}", role=role)
+    what = "points" if role == "points" else "areas"
+    LOG.info("%s: the layer %s of %s, the only one with %s", role, fitting[0], path, what)
+    return str(fitting[0])
+
+
+def _may_have(kinds: Tuple[str, ...], path: str, name: str) -> bool:
+    """Whether a layer's shapes are of these kinds, as far as its source says. Curves, which Fiona can't open, are
+    areas."""
+    try:
+        with fiona.open(path, layer=name, **ANY_DRIVER) as opened:
+            return opened.schema["geometry"] in kinds and name != "layer_styles"
+    except fiona.errors.UnsupportedGeometryTypeError:
+        return kinds is AREAS
+
+
+def _straightened(path: str, layer: Optional[str], role: str) -> gpd.GeoDataFrame:
+    """A layer with curves, which GDAL makes straight. Refused P5 without GDAL's own module for Python."""
+    try:
+        from osgeo import gdal
+    except ImportError as fault:
+        text = f"{path} has curves: make them straight by `ogr2ogr -nlt CONVERT_TO_LINEAR`"
+        raise Refused("P5", text, role=role) from fault
+    gdal.UseExceptions()
+    with tempfile.TemporaryDirectory() as folder:
+        straight = str(Path(folder) / "straight.gpkg")
+        try:
+            layers = [layer] if layer else None
+            done = gdal.VectorTranslate(straight, path, format="GPKG", layers=layers, geometryType="CONVERT_TO_LINEAR")
+            del done
+        except RuntimeError as fault:
+            raise Refused("P1", f"{path} can't be read: {fault}", role=role) from fault
+        frame = read_layer(straight, role, layer)
+    frame.attrs["lost"] = [f"{role}: curves were made straight by GDAL", *frame.attrs["lost"]]
+    return frame
+
+
+def _beyond_fiona(path: str, name: str) -> Tuple[List[str], Dict[str, str]]:
+    """What a layer has that Fiona does not hand on: measures (M), and which columns hold truths.
+
+    Nothing is known without GDAL's own module.
+    """
+    try:
+        from osgeo import ogr
+    except ImportError:
+        return [], {}
+    opened = ogr.Open(path)
+    layer = opened.GetLayerByName(name) if opened is not None else None
+    if layer is None:
+        return [], {}
+    fields = layer.GetLayerDefn()
+    columns = [fields.GetFieldDefn(at) for at in range(fields.GetFieldCount())]
+    truths = {column.GetName(): "bool" for column in columns if column.GetSubType() == ogr.OFSTBoolean}
+    return ["measures (M)"] if ogr.GT_HasM(layer.GetGeomType()) else [], truths
+
+
+def plain(frame: gpd.GeoDataFrame, role: str, lost: List[str]) -> gpd.GeoDataFrame:
+    """A copy with an index from 0, columns named by text, each once, and values that a GeoPackage takes.
+
+    `.attrs["lost"]` has a sentence for each thing that is lost.
+    """
+    try:
+        geometry = frame.geometry
+    except AttributeError as fault:
+        raise Refused("P1", "the frame has no geometry column", role=role) from fault
+    columns = {}
+    for at, name in enumerate(frame.columns):
+        if name == frame.geometry.name:
+            continue
+        if str(name) in columns or str(name) == "geometry":
+            lost = [*lost, f"a second column {name}"]
+            continue
+        values, what = _plain_column(frame.iloc[:, at].reset_index(drop=True))
+        lost = [*lost, f"{what} of the column {name}"] if what else lost
+        if values is not None:
+            columns[str(name)] = values
+    result = gpd.GeoDataFrame(columns, geometry=geometry.reset_index(drop=True).rename("geometry"), crs=frame.crs)
+    if any(shape is not None and shape.has_z for shape in result.geometry.to_numpy()):
+        lost = [*lost, "heights (Z), which stay in the layers as they were given"]
+    result.attrs["lost"] = [f"{role}: no use is made of {it}" for it in lost]
+    return result
+
+
+def _plain_column(values: pd.Series) -> Tuple[Optional[pd.Series], str]:
+    """A column as a GeoPackage takes it, or None; and what is lost of it."""
+    if isinstance(values.dtype, gpd.array.GeometryDtype):
+        return None, "the geometries"
+    if isinstance(values.dtype, pd.SparseDtype):
+        values = values.sparse.to_dense()
+    if isinstance(values.dtype, np.dtype) and values.dtype.kind == "f" and values.dtype.itemsize > 8:
+        return values.astype(float), "the last digits"
+    if isinstance(values.dtype, pd.CategoricalDtype):
+        return values.astype(values.cat.categories.dtype if not values.isna().any() else object), ""
+    if isinstance(values.dtype, (pd.PeriodDtype, pd.IntervalDtype)) or values.dtype.kind in "mc":
+        return values.astype(str).where(values.notna(), None), "the type"
+    if values.dtype == object:
+        known = values.dropna()
+        simple = (str, bytes, bool, int, float, datetime.date, datetime.datetime)
+        if not all(isinstance(value, simple) or hasattr(value, "item") for value in known):
+            return values.map(lambda value: str(value), na_action="ignore"), "the type"
+    return values, ""
