@@ -202,7 +202,8 @@ both_whole low high n rounded f h near is none =
     let b : n ≤ℤ high = less_eq n high f.d h.positive (is_le f.n (n *ℤ f.d) (high *ℤ f.d) e h.high) in
     let c : n <ℤ (low +ℤ pos 1) =
     less n (low +ℤ pos 1) (pos PARTS *ℤ f.d) (parts_some f.d h.positive)
-    (lt_by (pos PARTS *ℤ f.n) (((low +ℤ pos 1) *ℤ pos PARTS +ℤ pos 0) *ℤ f.d) (n *ℤ (pos PARTS *ℤ f.d)) ((low +ℤ pos 1) *ℤ (pos PARTS *ℤ f.d))
+    (lt_by (pos PARTS *ℤ f.n) (((low +ℤ pos 1) *ℤ pos PARTS +ℤ pos 0) *ℤ f.d) (n *ℤ (pos PARTS *ℤ f.d))
+    ((low +ℤ pos 1) *ℤ (pos PARTS *ℤ f.d))
     (ap (λ x. pos PARTS *ℤ x) e
     ∙ same_by (pos PARTS ∷ n ∷ f.d ∷ []) (mul (var 0) (mul (var 1) (var 2))) (mul (var 1) (mul (var 0) (var 2))) refl)
     (same_by (low ∷ pos PARTS ∷ f.d ∷ []) (mul (add (mul (add (var 0) (lit (pos 1))) (var 1)) (lit (pos 0))) (var 2))

@@ -20,7 +20,8 @@ abbrev pub count_over : (Edge → ℕ) → List Edge → ℕ
 count_over count [] = 0
 count_over count (edge ∷ rest) = count edge + count_over count rest
 
--- for how many pairs of an edge of the one ring and an edge of the other the area between them is no whole number of parts
+-- for how many pairs of an edge of the one ring and an edge of the other the area between them is no whole number of
+-- parts
 abbrev pub pairs_rounded : List Corner → List Corner → ℕ
 pairs_rounded r s = count_over (λ e. count_over (λ f. loss_of (between e f)) (edges s)) (edges r)
 
