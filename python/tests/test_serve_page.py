@@ -36,6 +36,17 @@ def browser():
     driver.quit()
 
 
+@pytest.fixture(autouse=True)
+def few_tabs(browser):
+    """A browser has six connections to a server, and each page's stream takes one: a test's tabs are closed after it."""
+    yield
+    first, *others = browser.window_handles
+    for handle in others:
+        browser.switch_to.window(handle)
+        browser.close()
+    browser.switch_to.window(first)
+
+
 class Window:
     """A tab of the browser with the page."""
 

@@ -3,11 +3,17 @@ from __future__ import annotations
 
 import csv
 import re
+import subprocess
+import sys
 
+import geopandas as gpd
 import pytest
-from pyproj import Transformer
+from pyproj import CRS, Transformer
+from shapely.geometry import box
 
-from served import Served, grid_layer, ogr
+import gandovel
+
+from served import Served, environment, grid_layer, ogr
 
 PLACES = {
     3006: (15.1, 62.2),
@@ -137,11 +143,6 @@ def test_numbers_that_all_are_dates(tmp_path):
 
 def test_crs_that_is_named(tmp_path):
     """A layer that has a code is in it; another is refused."""
-    import subprocess
-    import sys
-
-    from served import environment
-
     folder = grid_layer(tmp_path, 25832, PLACES[25832], 3, 3)
     words = [sys.executable, "-m", "gandovel", "serve", str(folder), "--journal", str(tmp_path / "j.txt")]
     for name, text in (
@@ -151,3 +152,48 @@ def test_crs_that_is_named(tmp_path):
         ended = subprocess.run([*words, "--crs", name], env=environment(), capture_output=True, text=True, timeout=120)
         assert ended.returncode == 1 and ended.stderr.strip() == text, ended.stderr
     assert not (tmp_path / "j.txt").exists()
+
+
+LOCAL = 'ENGCRS["mine",EDATUM["mine"],CS[Cartesian,2],AXIS["x",east],AXIS["y",north],LENGTHUNIT["metre",1]]'
+
+
+@pytest.mark.parametrize("text", [LOCAL, "+proj=tmerc +lon_0=9.05 +k=0.9996 +x_0=500000 +ellps=GRS80 +units=m"])
+def test_a_layer_without_a_code(tmp_path, text):
+    """A local projection is served by the name that the operator gives it; one of one's own as it is, too."""
+    cells = [box(530_000 + 10 * a, 5_550_000, 530_010 + 10 * a, 5_550_010) for a in range(3)]
+    frame = gpd.GeoDataFrame({"parcel_no": list("abc")}, geometry=cells, crs=CRS.from_user_input(text))
+    gandovel.prepare(frame, number="parcel_no", unit="m").save(tmp_path / "work")
+    if text == LOCAL:
+        words = [
+            sys.executable,
+            "-m",
+            "gandovel",
+            "serve",
+            str(tmp_path / "work"),
+            "--journal",
+            str(tmp_path / "j.txt"),
+        ]
+        ended = subprocess.run(words, env=environment(), capture_output=True, text=True, timeout=120)
+        told = "error: W3 mine has no way to longitude and latitude: name another by --crs\n"
+        assert (ended.returncode, ended.stderr) == (1, told)
+    else:
+        with Served(tmp_path / "work", tmp_path / "register.txt") as served:
+            told = served.ask("/collections/parcels").json()
+            assert told["crs"] == [CRS84, uri(4326), uri(3857)] and "storageCrs" not in told
+            assert served.ask("/collections/parcels/items?bbox=-180,-90,180,90").json()["numberMatched"] == 3
+            assert served.end() == 0
+    with Served(tmp_path / "work", tmp_path / "register.txt", "--crs", "EPSG:25832") as served:
+        assert served.ask("/collections/parcels").json()["storageCrs"] == uri(25832)
+        answer = served.ask(f"/collections/parcels/items/1?crs={uri(25832)}").json()["geometry"]["coordinates"][0]
+        assert [530_000.0, 5_550_000.0] in answer and served.end() == 0
+
+
+def test_coordinates_that_are_not_in_the_projection(tmp_path):
+    """A layer under a wrong name: where the projection is not defined."""
+    cells = [box(x, 9_000_000, x + 10, 9_000_010) for x in (90_000_000, 90_000_010)]
+    frame = gpd.GeoDataFrame({"parcel_no": list("ab")}, geometry=cells, crs=3035)
+    gandovel.prepare(frame, number="parcel_no").save(tmp_path / "work")
+    words = [sys.executable, "-m", "gandovel", "serve", str(tmp_path / "work"), "--journal", str(tmp_path / "j.txt")]
+    ended = subprocess.run(words, env=environment(), capture_output=True, text=True, timeout=120)
+    assert ended.returncode == 1 and ended.stderr.startswith("error: W3 "), ended.stderr
+    assert "do not lie where" in ended.stderr

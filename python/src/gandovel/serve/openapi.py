@@ -13,6 +13,15 @@ _STATUSES = {
     "429": "too many requests of this client",
     "503": "the register can't answer now",
 }
+_BOX = {"type": "array", "items": {"type": "number"}, "minItems": 4, "maxItems": 6}
+_FORMS: Dict[str, Dict[str, Any]] = {
+    "bbox": {"schema": _BOX, "style": "form", "explode": False},
+    "bbox-crs": {"schema": {"type": "string", "format": "uri"}},
+    "crs": {"schema": {"type": "string", "format": "uri"}},
+    "datetime": {"schema": {"type": "string"}, "style": "form", "explode": False},
+    "limit": {"style": "form", "explode": False},
+}
+"""Parameters as the standard has them, which the server reads as text."""
 _OPEN = ("/", "/health", "/page/{name}", "/page/map/{name}")
 """What anyone may ask for."""
 
@@ -46,6 +55,8 @@ def _put_right(operation: Dict[str, Any], schemas: Dict[str, Any]) -> None:
     responses.pop("422", None)
     for status, text in _STATUSES.items():
         responses.setdefault(status, {"description": text, "content": {"application/json": {"schema": _REFUSAL}}})
+    for parameter in operation.get("parameters", []):
+        parameter.update(_FORMS.get(parameter["name"], {}))
     for content in operation.get("requestBody", {}).get("content", {}).values():
         schemas.update(content["schema"].pop("definitions", {}))
 
