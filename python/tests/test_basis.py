@@ -74,8 +74,6 @@ def test_what_touching_did_is_said_each_time(layer, folder):
         assert ended.returncode == 1 and line in ended.stdout.splitlines()
 
 
-
-
 def test_one_record_in_json_the_report_and_python(layer, folder):
     told = json.loads(command("check", "parcels.gpkg", "--json", cwd=layer.parent).stdout)["basis"]
     again = json.loads(command("check", "work", "--json", cwd=layer.parent).stdout)["basis"]

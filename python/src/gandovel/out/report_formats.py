@@ -87,7 +87,9 @@ def faults_of(report: Report) -> List[Dict[str, Any]]:
     for identity, row, shape in zip(identities(report), rows, frame.geometry):
         inside = shape.representative_point()
         numbers = [number for number in row["numbers"].split(",") if number]
-        found.append({"id": identity, **row, "numbers": numbers, "x": inside.x, "y": inside.y, "bounds": list(shape.bounds)})
+        found.append(
+            {"id": identity, **row, "numbers": numbers, "x": inside.x, "y": inside.y, "bounds": list(shape.bounds)}
+        )
     return found
 
 

@@ -38,7 +38,9 @@ def test_no_option(prepared: Prepared, told: Dict[str, Any], what: str) -> None:
 
 
 def _is_told(name: str, value: Any) -> bool:
-    return value is not None and value is not False and not (isinstance(value, (str, float)) and value == DEFAULTS[name])
+    return (
+        value is not None and value is not False and not (isinstance(value, (str, float)) and value == DEFAULTS[name])
+    )
 
 
 def _holds(prepared: Prepared, name: str, value: Any) -> bool:
