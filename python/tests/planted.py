@@ -180,7 +180,7 @@ def _feet(step: Optional[float]) -> Callable[[int, Path], Case]:
     """In feet, rounded to `step` (feet; None: not), at the resolution of a geodatabase."""
 
     def made(seed: int, folder: Path) -> Case:
-        distance = 1.42 * (step or 0.0) * 304.8006096 + 0.2
+        distance = 1.42 * max(1.0, (step or 0.0) * 304.8006096) + 0.2
         frame, planted = drawn(seed, distance)
         foot = 0.3048006096
         there = reshaped(frame, lambda corners: (corners - (561_000, 5_934_000)) / foot + (980_000, 200_000), FEET)

@@ -181,8 +181,8 @@ def test_layers_say_what_is_measured(folder):
 def test_the_layers_themselves_are_reported_at_once(folder):
     told = command("report", "parcels.gpkg", "--zones", "zones.gpkg", "--frame", "--out", "framed.gpkg", cwd=folder)
     assert told.returncode == 1, told.stderr
-    prepared, found = told.stdout.splitlines()
-    assert prepared.startswith("202 parcels -> 226 rings ")
+    prepared, basis, found = told.stdout.splitlines()
+    assert prepared.startswith("202 parcels -> 226 rings ") and basis.startswith("no grid, ")
     assert found.startswith("1 gap (7.09 m2), 2 overlaps (762.27 m2, 0.46 m2); ")
     assert "OUT" not in set(gpd.read_file(folder / "framed.gpkg", layer="parcels").number)
 

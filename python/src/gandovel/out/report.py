@@ -34,6 +34,7 @@ from ..reading.units import Unit
 from ..shapes import MULTIPOLYGON, PLAIN, PLAIN_HEAD, POLYGON, array_of, box_of, kind_of, multipolygon_wkb
 from ..shapes import plain_wkb, polygon_wkb, rings_of, shapes_of, wkb_of
 from . import descriptions
+from .basis import Basis
 from .gpkg import Table, test_name, write_layers
 from .styles import STYLES
 
@@ -82,10 +83,18 @@ class Report:
 
     @property
     def verdict(self) -> str:
-        """`tiles`, `does not tile`, or `open`: it tiles the city that it makes, which has open gaps."""
+        """`tiles`, `does not tile`, `open`: it tiles the city that it makes, which has open gaps; or `undecided`: what
+        are faults can't be told from the layer's noise (`basis.advice`)."""
+        if self.prepared.told.get("precision", {}).get("how") == "undecided" and len(self.faults()):
+            return "undecided"
         if any(map(len, (self.gaps, self.overlaps, self.outside, self.slivers))):
             return "does not tile"
         return "open" if len(self.open_gaps) else "tiles"
+
+    @cached_property
+    def basis(self) -> Basis:
+        """What the verdict stands on."""
+        return Basis.of(self.prepared)
 
     @cached_property
     def split(self) -> gpd.GeoDataFrame:
@@ -172,7 +181,8 @@ class Report:
         if self._has_changes:
             layers.append(("changes", self.prepared.changes_table()))
         notes = {**descriptions.REPORT, **descriptions.CHANGES}
-        notes["parcels"] = f"{notes['parcels']} {descriptions.unit_text(self.prepared.unit)}"
+        notes["parcels"] = f"{notes['parcels']} {descriptions.unit_text(self.prepared.unit)} {self.basis.text()}"
+        notes["touched"] = f"{notes['touched']} {self.basis.histogram()}".rstrip()
         write_layers(path, layers, STYLES, notes)
         if self.zones is not None:
             _write_text(path.with_name("split.csv"), self.table())

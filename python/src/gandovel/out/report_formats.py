@@ -11,6 +11,7 @@ import numpy as np
 from ..errors import Refused
 from ..program.tool import program_version
 from ..reading.prepared import OUT_ROW, Prepared
+from .known import identities
 from .report import Report
 
 FAULT_KEYS = (
@@ -36,6 +37,7 @@ def answer_of(report: Report, prepared: Prepared) -> Dict[str, Any]:
     return {
         "program": program_version(),
         "verdict": report.verdict,
+        "basis": report.basis.told(),
         "parcels": len(prepared.numbers),
         "rings": sum(row != OUT_ROW for island in prepared.islands for row in island.parcels.source),
         "islands": len(prepared.islands),
@@ -83,10 +85,13 @@ def faults_of(report: Report) -> List[Dict[str, Any]]:
     """Gaps, overlaps, what lies beyond the city, open gaps and slivers, each as a dictionary; the largest area first."""
     frame = report.faults()
     found = []
-    for row, shape in zip(frame[list(FAULT_KEYS)].to_dict("records"), frame.geometry):
+    rows = frame[list(FAULT_KEYS)].to_dict("records")
+    for identity, row, shape in zip(identities(report), rows, frame.geometry):
         inside = shape.representative_point()
         numbers = [number for number in row["numbers"].split(",") if number]
-        found.append({**row, "numbers": numbers, "x": inside.x, "y": inside.y, "bounds": list(shape.bounds)})
+        found.append(
+            {"id": identity, **row, "numbers": numbers, "x": inside.x, "y": inside.y, "bounds": list(shape.bounds)}
+        )
     return found
 
 

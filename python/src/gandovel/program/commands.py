@@ -16,6 +16,7 @@ from ..large import is_large
 from ..large.verdict import areas_of_island, locate_in_island, overlaid_island, test_editable
 from ..out.exports import back
 from ..out.report import report
+from ..reading.options import test_no_option
 from ..reading.points import on_grid
 from ..reading.prepare import prepare
 from ..reading.prepared import OUT_ROW, Island, Prepared
@@ -28,6 +29,14 @@ from .zone_areas import Member, told_areas
 
 Register = Union[Prepared, Source]
 """A register that `prepare` made, or parcels that it takes."""
+
+
+def _prepared(parcels: Register, told: Dict[str, Any]) -> Prepared:
+    """A register with the options that are told. Refused P18 where it is prepared already, and they say another."""
+    if isinstance(parcels, Prepared):
+        test_no_option(parcels, told, "the register")
+        return parcels
+    return prepare(parcels, **told)
 
 
 @contextmanager
@@ -62,28 +71,16 @@ def check(
     Columns: kind (`gap` | `overlap` | `open_gap` | `sliver`), layer, island, area2_mm2 (text: twice the area in mm2,
     exact but for open gaps), area_m2, area_how, area and unit (in the layer's unit), depth (how often too much is
     covered), numbers (of a gap those that border it, exact; of an overlap those that cover it, measured by GEOS),
-    numbers_how (`exact` | `measured`), touched (corners of it that were made to touch), geometry. Refused H1, H3, F..,
-    P... Options are those of `prepare`.
+    numbers_how (`exact` | `measured`), touched (corners of it that were made to touch), geometry; `.attrs["basis"]`
+    says what it stands on. Refused H1, H3, F.., P... Options are those of `prepare`.
     """
-    prepared = (
-        parcels
-        if isinstance(parcels, Prepared)
-        else prepare(
-            parcels,
-            zones,
-            number,
-            zone,
-            city,
-            frame,
-            max_move,
-            touch,
-            grid=grid,
-            unit=unit,
-            skip_invalid=skip_invalid,
-            narrow=narrow,
-        )
-    )
-    return report(prepared).faults()
+    told = {"zones": zones, "number": number, "zone": zone, "city": city, "frame": frame, "max_move": max_move}
+    told.update(touch=touch, grid=grid, unit=unit, skip_invalid=skip_invalid, narrow=narrow)
+    prepared = _prepared(parcels, told)
+    judged = report(prepared)
+    found = judged.faults()
+    found.attrs["basis"] = judged.basis
+    return found
 
 
 def area(
@@ -102,24 +99,9 @@ def area(
     narrow: float = 1.0,
 ) -> gpd.GeoDataFrame:
     """The parcels with area2_mm2 (whole number: twice the area in mm2 on the grid, exact) and area_m2 (rounded)."""
-    prepared = (
-        parcels
-        if isinstance(parcels, Prepared)
-        else prepare(
-            parcels,
-            zones,
-            number,
-            zone,
-            city,
-            frame,
-            max_move,
-            touch,
-            grid=grid,
-            unit=unit,
-            skip_invalid=skip_invalid,
-            narrow=narrow,
-        )
-    )
+    told = {"zones": zones, "number": number, "zone": zone, "city": city, "frame": frame, "max_move": max_move}
+    told.update(touch=touch, grid=grid, unit=unit, skip_invalid=skip_invalid, narrow=narrow)
+    prepared = _prepared(parcels, told)
     doubled: Dict[int, int] = defaultdict(int)
     with _islands(prepared) as folders:
         for folder, island in folders:
@@ -155,24 +137,9 @@ def overlay(
     area_m2 `measured`. Refused H2 where parcels or zones do not tile the city (`report` answers there, too), H1, H3,
     F.., P...
     """
-    prepared = (
-        parcels
-        if isinstance(parcels, Prepared)
-        else prepare(
-            parcels,
-            zones,
-            number,
-            zone,
-            city,
-            frame,
-            max_move,
-            touch,
-            grid=grid,
-            unit=unit,
-            skip_invalid=skip_invalid,
-            narrow=narrow,
-        )
-    )
+    told = {"zones": zones, "number": number, "zone": zone, "city": city, "frame": frame, "max_move": max_move}
+    told.update(touch=touch, grid=grid, unit=unit, skip_invalid=skip_invalid, narrow=narrow)
+    prepared = _prepared(parcels, told)
     if prepared.zones is None:
         raise Refused("P2", "there are no zones to overlay", "zones")
     found: Dict[Tuple[int, str], List[Member]] = defaultdict(list)
@@ -228,24 +195,9 @@ def locate(
     nearest to it, `moved_mm` away (`moved_how`: measured). Refused H2 where the parcels do not tile the city, P7 where
     the points have another projection, P4, P5, P9 what is no point, all at once.
     """
-    prepared = (
-        parcels
-        if isinstance(parcels, Prepared)
-        else prepare(
-            parcels,
-            zones,
-            number,
-            zone,
-            city,
-            frame,
-            max_move,
-            touch,
-            grid=grid,
-            unit=unit,
-            skip_invalid=skip_invalid,
-            narrow=narrow,
-        )
-    )
+    told = {"zones": zones, "number": number, "zone": zone, "city": city, "frame": frame, "max_move": max_move}
+    told.update(touch=touch, grid=grid, unit=unit, skip_invalid=skip_invalid, narrow=narrow)
+    prepared = _prepared(parcels, told)
     frame_of_points = frame_of(points, "points")
     whole, moved = on_grid(frame_of_points, prepared)
     where, numbers = ["outside"] * len(whole), [""] * len(whole)
@@ -294,24 +246,9 @@ def apply(
     Refused H2 where the parcels do not tile the city, P13 for a number that is not there, L1 for a line that is no
     edit.
     """
-    prepared = (
-        parcels
-        if isinstance(parcels, Prepared)
-        else prepare(
-            parcels,
-            zones,
-            number,
-            zone,
-            city,
-            frame,
-            max_move,
-            touch,
-            grid=grid,
-            unit=unit,
-            skip_invalid=skip_invalid,
-            narrow=narrow,
-        )
-    )
+    told = {"zones": zones, "number": number, "zone": zone, "city": city, "frame": frame, "max_move": max_move}
+    told.update(touch=touch, grid=grid, unit=unit, skip_invalid=skip_invalid, narrow=narrow)
+    prepared = _prepared(parcels, told)
     test_editable(prepared.islands[island - 1])
     lines = lines_of(prepared, edits, island - 1)
     with _islands(prepared) as folders:

@@ -21,9 +21,12 @@ EXACT = 1e-4
 """What is less, in mm, is the noise of floating point."""
 ENOUGH, EXCEPTIONS = 20, 5
 """An edge is clear with so many pairs below it, and at most a fifth as many beyond it."""
+RARE, CURVED = 20, 0.05
+"""With one in so many beyond it an edge is clear, unless all below is less than so much (mm): by as much a straight
+border is curved in another projection, and that is not the noise of a rounding."""
 APART = 2.0
 """Beyond a clear edge there is nothing as far as twice the distance."""
-COMMON, CHANCE = 30.0, 0.01
+COMMON, CHANCE = 30.0, 0.1
 """Pairs beyond an edge are a heap of their own where it is no wonder, by that chance, that none is nearer; up to so far
 (mm)."""
 EDGES = (1e-4, 1e-3, 0.01, 0.1, 0.2, 0.5, 1.0, 2.0, 5.0, 10.0, 15.0, 20.0, 30.0, 50.0, 100.0, 150.0, 300.0)
@@ -54,11 +57,13 @@ def noise_of_pairs(loops: Loops, points: Array, floor: float) -> Noise:
     counts = np.diff(np.searchsorted(off, [0.0, *EDGES], side="right"), prepend=0)[1:]
     found = Noise(None, counts.tolist())
     found.counts[0] += int((off == 0).sum()) if len(off) else 0
+    blurred = False
     for distance in _edges(off, exact):
         below = int(np.searchsorted(off, distance, side="right"))
-        if _is_clear(off[below:], below, distance, exact):
+        if not blurred and _is_clear(off[below:], below, distance, exact):
             found.distance = 0.0 if distance <= exact else float(distance)
             return found
+        blurred = blurred or _is_sharp(off[below:], below)
         if distance > exact:
             left = int((off[below:] <= MOST).sum())
             found.proposed.append({"touch_mm": _rounded_up(float(distance)), "touching": below, "left": left})
@@ -73,9 +78,16 @@ def _edges(off: Array, exact: float) -> List[float]:
     return [exact, *np.unique(off[kept]).tolist()]
 
 
+def _is_sharp(beyond: Array, below: int) -> bool:
+    """Whether enough pairs are below an edge, and few beyond it: if it is not clear then, no later one is."""
+    return below >= ENOUGH and EXCEPTIONS * len(beyond) <= below
+
+
 def _is_clear(beyond: Array, below: int, distance: float, exact: float) -> bool:
-    if below >= ENOUGH and EXCEPTIONS * len(beyond) <= below:
-        return distance <= exact or not _is_heap(beyond, distance, max(COMMON, 3 * distance))
+    if _is_sharp(beyond, below):
+        if distance <= exact or (distance >= CURVED and RARE * len(beyond) <= below):
+            return True
+        return not _is_heap(beyond, distance, max(COMMON, 3 * distance))
     return distance <= exact and not _is_heap(beyond, distance, MOST)
 
 

@@ -66,7 +66,7 @@ def grids_of(points: Array, scale: float, noise: float) -> Grids:
         return _all_on_one(points, [step for step in steps if step <= most * 1.05], noise)
     counts = np.bincount(fitted, minlength=len(steps) + 1)
     real = [at for at in range(coarse, len(steps)) if _is_believed(at, steps, counts, noise)]
-    return _believed(fitted, steps, real)
+    return _believed(points, [steps[at] for at in real], noise)
 
 
 def candidates(scale: float, noise: float) -> List[float]:
@@ -115,14 +115,12 @@ def _is_believed(at: int, steps: Sequence[float], counts: Array, noise: float) -
     return float(counts[at]) > chance + SURE * chance**0.5 + (LEAST_MORE if chance > 0 else 0)
 
 
-def _believed(fitted: Array, steps: Sequence[float], real: List[int]) -> Grids:
-    """Points by the coarsest of the real steps that they fit."""
-    own = np.full(len(steps) + 1, NONE, dtype=np.int64)
+def _believed(points: Array, steps: List[float], noise: float) -> Grids:
+    """Points by the coarsest of the steps that are believed which they fit."""
+    fitted = _fitted(points, steps, noise)
+    grids = Grids(steps, np.where(fitted == len(steps), NONE, fitted), None)
     for at, step in enumerate(steps):
-        own[at] = next((new for new, it in enumerate(real) if _is_multiple(step, steps[it])), NONE)
-    grids = Grids([steps[at] for at in real], own[fitted], None)
-    for at, step in enumerate(grids.steps):
-        if 2 * int(grids.fits(grids.of_points, at).sum()) > len(fitted):
+        if 2 * int(grids.fits(grids.of_points, at).sum()) > len(points):
             grids.main = step
             break
     return grids

@@ -24,6 +24,7 @@ from ..exact.outlines import Outlines, outlines
 from ..program.limits import FARTHEST, MOST_CORNERS, too_large
 from ..progress import Progress
 from ..shapes import bounds_of
+from .digests import source_of
 from .loops import (
     CITY,
     PARCELS,
@@ -171,7 +172,15 @@ def prepare(
         number = ROW
     names = str(number), None if zone is None else str(zone)
     layers = _tested(*frames, *names, unit, skip_invalid)
-    return _prepared(layers, frame, max_move, (grid, touch), narrow * 1000.0, progress)
+    prepared = _prepared(layers, frame, max_move, (grid, touch), narrow * 1000.0, progress)
+    prepared.told["sources"] = [
+        source_of(source, read, role)
+        for source, read, role in zip((parcels, zones, city), frames, ROLES)
+        if source is not None and read is not None
+    ]
+    options = {"number": number, "zone": zone, "frame": frame, "max_move": max_move, "touch": touch, "grid": grid}
+    prepared.told["options"] = {**options, "unit": unit, "skip_invalid": skip_invalid, "narrow": narrow}
+    return prepared
 
 
 def _prepared(

@@ -132,5 +132,3 @@ def test_distances(**told: Optional[float]) -> None:
         if distance is not None and not (0 <= distance <= FARTHEST_TOLD and (distance > 0 or name != "grid")):
             what, least = name.replace("_", "-"), "above 0 and" if name == "grid" else "from 0"
             raise Refused("P8", f"a {what} of {distance} mm is none: give millimetres, {least} up to {FARTHEST_TOLD:,}")
-
-
