@@ -203,7 +203,7 @@ def test_owslib_reads(read):
     from owslib.ogcapi.features import Features
 
     service = Features(read.address + "/")
-    assert set(service.feature_collections()) == {"parcels", "zones", "split"}
+    assert set(service.feature_collections()) == {"parcels", "history", "zones", "split"}
     assert service.api()["openapi"].startswith("3.0")
     assert any("core" in it for it in service.conformance()["conformsTo"])
     assert service.collection("parcels")["id"] == "parcels"

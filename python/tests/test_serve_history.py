@@ -10,7 +10,7 @@ from shapely.geometry import box
 
 import gandovel
 
-from served import EAST, NORTH, Served, pretty, replayed
+from served import EAST, NORTH, Served, ogr, pretty, replayed
 from session_register import grid_city
 
 X, Y = EAST // 1000, NORTH // 1000
@@ -54,6 +54,16 @@ EDITS = [
 
 def told(served, parcel):
     return served.ask(f"/parcels/{parcel}").json()
+
+
+def test_types_of_the_layer(served):
+    """Days are days, numbers numbers and text text, by the schema and in GDAL."""
+    types = served.ask("/collections/parcels/schema").json()["properties"]
+    assert types["bought"] == {"type": "string", "format": "date"} and types["tax"] == {"type": "integer"}
+    assert types["owner"] == types["use"] == {"type": "string"}
+    told = ogr("ogrinfo", "-ro", "-al", "-so", f"OAPIF:{served.address}", "parcels")
+    for name, kind in (("bought", "Date"), ("tax", "Integer"), ("owner", "String"), ("number", "String")):
+        assert f"{name}: {kind} " in told, told
 
 
 def test_halves_have_nothing_of_the_whole(served):

@@ -2,6 +2,7 @@
 from __future__ import annotations
 
 import csv
+import os
 import re
 import subprocess
 import sys
@@ -115,6 +116,26 @@ def test_numbers_are_text(served):
     assert "number: String" in told and "floors: Integer" in told and "area_m2: Real" in told
 
 
+QGIS = """
+import sys
+from qgis.core import QgsApplication, QgsVectorLayer
+app = QgsApplication([], False)
+app.initQgis()
+layer = QgsVectorLayer(f"url='{sys.argv[1]}' typename='parcels' pageSize='1000'", "parcels", "OAPIF")
+for feature in layer.getFeatures():
+    print("number", feature["number"])
+app.exitQgis()
+"""
+
+
+def numbers_of_qgis(served, folder):
+    """The numbers that QGIS's own provider reads, in order."""
+    words = ["/usr/bin/python3", "-c", QGIS, served.address + "/"]
+    settings = {**os.environ, "QT_QPA_PLATFORM": "offscreen", "HOME": str(folder)}
+    ended = subprocess.run(words, env=settings, capture_output=True, text=True, timeout=300)
+    return sorted(line[len("number ") :] for line in ended.stdout.splitlines() if line.startswith("number "))
+
+
 def test_all_numbers_arrive(tmp_path):
     """5,000 numbers such as 12-3/4, some of them dates to GDAL, all of its first page where they stand by their ids."""
     folder = grid_layer(tmp_path, 25832, PLACES[25832], 100, 50)
@@ -126,6 +147,7 @@ def test_all_numbers_arrive(tmp_path):
             with open(out, newline="") as file:
                 found = [row["number"] for row in csv.DictReader(file)]
             assert len(found) == 5000 and set(found) == wanted
+        assert numbers_of_qgis(served, tmp_path) == sorted(wanted)
         assert served.end() == 0
 
 

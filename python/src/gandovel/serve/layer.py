@@ -4,6 +4,7 @@ from __future__ import annotations
 import json
 import math
 import re
+from datetime import date, datetime
 from pathlib import Path
 from typing import Any, Dict, List, Optional, Tuple
 
@@ -206,7 +207,12 @@ def kinds_of(rows: List[Dict[str, Any]]) -> Dict[str, Dict[str, Any]]:
     }
 
 
+class Day(str):
+    """A day, as JSON has it: a text such as `2001-02-03`."""
+
+
 _KINDS: Dict[frozenset[type], Dict[str, Any]] = {
+    frozenset({Day}): {"type": "string", "format": "date"},
     frozenset({bool}): {"type": "boolean"},
     frozenset({int}): {"type": "integer"},
     frozenset({float}): {"type": "number"},
@@ -217,13 +223,15 @@ _KINDS: Dict[frozenset[type], Dict[str, Any]] = {
 def _column(values: Any) -> List[Any]:
     """A column as JSON has it: moments that are all the begin of a day are days."""
     if pd.api.types.is_datetime64_any_dtype(values) and (values.dropna() == values.dropna().dt.normalize()).all():
-        return [None if value is pd.NaT else value.date().isoformat() for value in values]
+        return [None if value is pd.NaT else Day(value.date().isoformat()) for value in values]
     return [_plain(value) for value in values.tolist()]
 
 
 def _plain(value: Any) -> Any:
     """A value as JSON has it; null for one that is missing, text for one that JSON has no kind of."""
     value = value.item() if isinstance(value, np.generic) else value
+    if isinstance(value, date) and not isinstance(value, datetime):
+        return Day(value.isoformat())
     if value is None or isinstance(value, (bool, int, str)):
         return value
     if isinstance(value, float):
