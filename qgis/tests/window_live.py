@@ -6,6 +6,7 @@ from pathlib import Path
 from typing import Any, Callable, Dict, List
 
 from qgis.core import QgsGeometry, QgsProject, QgsVectorLayer
+from qgis.PyQt.QtGui import QColor
 from qgis.utils import iface
 
 Turn = Callable[[Callable[[], bool], str], None]
@@ -33,6 +34,7 @@ def live_work(dock: Any, folder: Path, turn: Turn, checked: Any, picture: Any) -
     layer = QgsVectorLayer(str(folder / "street_live.gpkg"), "street_live", "ogr")
     QgsProject.instance().addMapLayer(layer)
     iface.setActiveLayer(layer)
+    layer.renderer().symbol().setColor(QColor("#e9ecee"))
     iface.mapCanvas().setExtent(layer.extent().buffered(4))
     dock.layers.setLayer(layer)
     dock.form.live_box.setChecked(True)
