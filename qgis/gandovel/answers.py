@@ -12,8 +12,8 @@ from .words import counted, tr
 
 PACKAGE_SIDE = Path(__file__).with_name("package_side") / "answer.py"
 """What the package's own Python runs where the package has no command for it."""
-KINDS = ("gap", "overlap", "open_gap", "sliver")
-LAYERS = {"gap": "gaps", "overlap": "overlaps", "open_gap": "open_gaps", "sliver": "slivers"}
+KINDS = ("gap", "overlap", "beyond", "open_gap", "sliver")
+LAYERS = {"gap": "gaps", "overlap": "overlaps", "beyond": "beyond", "open_gap": "open_gaps", "sliver": "slivers"}
 """The layer of a report, and the name of its count, for each kind of fault."""
 Answer = Dict[str, Any]
 _ERROR = re.compile(
@@ -168,10 +168,12 @@ def counts_by_layer(answer: Answer) -> Dict[str, Dict[str, int]]:
 
 def counts_text(counts: Dict[str, int]) -> str:
     """The count of each kind of fault, in words."""
+    beyond = counted(counts["beyond"], tr("1 part beyond the city"), tr("{count} parts beyond the city"))
     return ", ".join(
         (
             counted(counts["gap"], tr("1 gap"), tr("{count} gaps"), tr("no gaps")),
             counted(counts["overlap"], tr("1 overlap"), tr("{count} overlaps"), tr("no overlaps")),
+            *([beyond] if counts["beyond"] else []),
             counted(counts["open_gap"], tr("1 open gap"), tr("{count} open gaps"), tr("no open gaps")),
             counted(counts["sliver"], tr("1 sliver"), tr("{count} slivers"), tr("no slivers")),
         )
@@ -184,7 +186,7 @@ def verdict_of(answer: Answer) -> str:
     counts = layers["parcels"]
     if not any(counts.values()) and answer.get("verdict") != "open":
         text = tr("The parcels tile the city: {counts}.", counts=counts_text(counts))
-    elif any(counts[kind] for kind in ("gap", "overlap", "sliver")):
+    elif any(counts[kind] for kind in ("gap", "overlap", "beyond", "sliver")):
         text = tr("The parcels do not tile the city: {counts}.", counts=counts_text(counts))
     else:
         text = tr("The verdict is open: {counts}.", counts=counts_text(counts))

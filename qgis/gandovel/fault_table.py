@@ -15,7 +15,13 @@ PLACE = Qt.ItemDataRole.UserRole
 
 def kind_text(kind: str) -> str:
     """The name of a kind of fault."""
-    names = {"gap": tr("Gap"), "overlap": tr("Overlap"), "open_gap": tr("Open gap"), "sliver": tr("Sliver")}
+    names = {
+        "gap": tr("Gap"),
+        "overlap": tr("Overlap"),
+        "open_gap": tr("Open gap"),
+        "sliver": tr("Sliver"),
+        "beyond": tr("Beyond the city"),
+    }
     return names[kind]
 
 

@@ -43,6 +43,8 @@ def candidates(fault: Fault, shapes: Shapes, names: Callable[[int], str], near: 
     Each leaves every shape that it changes valid and in as many parts as before.
     """
     found: List[Candidate] = []
+    if fault.kind == "beyond":  # whether the parcel or the city is wrong, its corners do not say
+        return found
     odd = _odd_corner(fault, shapes, names, near)
     found += [odd] if odd is not None else []
     missing = missing_corners(fault.shape, shapes, near)

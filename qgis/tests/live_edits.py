@@ -120,7 +120,7 @@ def agree(seed: int, edits: int, folder: Path, with_city: bool) -> Dict[str, int
     chance, shapes = random.Random(seed), made(5, 5)
     city = rounded(unary_union(list(shapes.values())).convex_hull) if with_city else None
     place = place_of(shapes, folder, city)
-    touch = place.reaches.touch
+    touch = place.touch
     compared = again = most = 0
     for count in range(edits):
         changed = edited(shapes, chance)

@@ -95,6 +95,13 @@ def parser() -> argparse.ArgumentParser:
     _preparing(mend)
     _answering(mend)
     mend.add_argument("--width", metavar="MM", type=float, default=1.0, help="nothing wider is closed (1)")
+    mend.add_argument(
+        "--to",
+        choices=("border", "larger", "older", "none"),
+        default="border",
+        help="who gets a piece: the parcel with the longest border with it (border), the largest, the first in the "
+        "layer, or a row of its own",
+    )
     mend.add_argument("--out", required=True, metavar="MENDED.gpkg", help="the GeoPackage to write")
     page = commands.add_parser("map", help="a report as one page to look at")
     page.add_argument("report", metavar="REPORT.gpkg")
@@ -252,27 +259,39 @@ def _locate(options: argparse.Namespace) -> int:
 
 
 def _mend(options: argparse.Namespace) -> int:
-    from .faults.mend import mend
+    from .faults.mend import COLUMNS, mend
     from .out.gpkg import test_name
     from .out.report_formats import csv_of, json_of
     from .progress import Progress
 
     test_name(options.out, _read(options))
     prepared = _prepared(options, Progress(shown=True))
-    mended = mend(prepared, options.width)
+    mended = mend(prepared, options.width, options.to)
     mended.save(options.out)
     _lost(prepared)
-    names = ("kind", "number", "area2_mm2", "area_m2", "x", "y")
-    rows = [[row[name] for name in names] for row in mended.closed]
     if options.json:
         print(json_of({"closed": mended.closed, "left": mended.left, "verdict": mended.verdict}))
     elif options.csv:
-        print(csv_of(names, rows), end="")
+        print(csv_of(COLUMNS, [[row[name] for name in COLUMNS] for row in mended.closed]), end="")
     else:
-        for kind, number, doubled, _, x, y in rows:
-            print(f"{kind} of {doubled} / 2 mm2 at ({x:.3f}, {y:.3f}): parcel {number} has it now")
+        for row in mended.closed:
+            print(f"{_place_of(row)}: {_new_owner(row)}")
+        for row in mended.left:
+            print(f"{_place_of(row)}: left, since {row['why']}")
         print(mended.summary())
-    return 0
+    return STATUS[mended.verdict]
+
+
+def _place_of(row: Dict[str, Any]) -> str:
+    """What a piece is, how large and where."""
+    least, most = row["area2_mm2"], row["area2_most_mm2"]
+    doubled = least if least == most else f"{least} to {most}"
+    return f"{row['kind']} of {doubled} / 2 mm2 at ({row['x']:.3f}, {row['y']:.3f})"
+
+
+def _new_owner(row: Dict[str, Any]) -> str:
+    """Who has a piece now."""
+    return "no parcel has it now" if row["number"] is None else f"parcel {row['number']} has it now"
 
 
 def _map(options: argparse.Namespace) -> int:

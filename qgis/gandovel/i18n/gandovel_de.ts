@@ -32,6 +32,10 @@
         <translation>1 Überlappung</translation>
     </message>
     <message>
+        <source>1 part beyond the city</source>
+        <translation>1 Teil jenseits der Stadt</translation>
+    </message>
+    <message>
         <source>1 sliver</source>
         <translation>1 Splitter</translation>
     </message>
@@ -118,6 +122,10 @@
     <message>
         <source>Area (m²)</source>
         <translation>Fläche (m²)</translation>
+    </message>
+    <message>
+        <source>Beyond the city</source>
+        <translation>Jenseits der Stadt</translation>
     </message>
     <message>
         <source>By default 1 mm.</source>
@@ -426,6 +434,10 @@
     <message>
         <source>Number of parcels whose border differs</source>
         <translation>Zahl der Flurstücke mit anderer Grenze</translation>
+    </message>
+    <message>
+        <source>Number of parts beyond the city</source>
+        <translation>Zahl der Teile jenseits der Stadt</translation>
     </message>
     <message>
         <source>Number of parts of the city</source>
@@ -822,6 +834,10 @@
     <message>
         <source>{count} overlaps</source>
         <translation>{count} Überlappungen</translation>
+    </message>
+    <message>
+        <source>{count} parts beyond the city</source>
+        <translation>{count} Teile jenseits der Stadt</translation>
     </message>
     <message>
         <source>{count} slivers</source>

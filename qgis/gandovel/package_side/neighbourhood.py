@@ -12,8 +12,8 @@ from typing import Any, Dict, Iterable, List, Optional, Sequence, Set, Tuple
 import numpy as np
 from gandovel.errors import Refused, raise_all
 from gandovel.exact.city import LEAST_OPEN, OpenGap, open_gaps
-from gandovel.exact.grid import without_straight
 from gandovel.exact.noding import LEAST, noise_of, points_of, touches
+from gandovel.exact.outlines import Outlines, outlines
 from gandovel.faults.polygons import faults_of
 from gandovel.program.limits import FARTHEST
 from gandovel.reading import prepare as preparing
@@ -21,9 +21,9 @@ from gandovel.reading.loops import CITY, PARCELS, bad_geometries, loops_of
 from gandovel.reading.sources import frame_of
 from geopandas import GeoDataFrame
 from shapely import wkb
-from shapely.geometry import Polygon
 
 import noded
+from coverings import Coverings
 from noded import Parcel
 from records import Records
 
@@ -42,7 +42,8 @@ class Neighbourhood:
     """Parcels by their features, what does not balance among them, and their faults."""
 
     def __init__(self, work: Any, layers: Any, features: Sequence[int]) -> None:
-        self.reaches, self.scale, self.crs = work.reaches, layers.scale, layers.parcels.crs
+        self.touch, self.noise = float(work.reaches.touch), float(work.reaches.noise)
+        self.scale, self.crs = layers.scale, layers.parcels.crs
         self.known = [np.unique(work.points[:, axis]) for axis in (0, 1)]
         self.parcels: Dict[int, Parcel] = {}
         self.slots: Dict[int, int] = {}
@@ -54,10 +55,12 @@ class Neighbourhood:
         self.order = list(self.parcels)
         self.drawn: noded.Net = {}
         self.net: noded.Net = {}
-        self.parts: List[Polygon] = []
+        self.outlines = Outlines([], [], [])
+        self.rings: List[Array] = []
         self.others = np.zeros((0, 2))
         self.records = Records(self)
-        self.lost, self.origin = "", np.zeros(2, dtype=np.int64)
+        self.lost = ""
+        self.coverings = Coverings(self)
         self.waiting: Set[noded.Corner] = set()
         self.fresh: Set[int] = set()
         self._begin()
@@ -87,17 +90,27 @@ class Neighbourhood:
     def _begin(self) -> None:
         """Nodes all parcels."""
         everything = self._with_city(self.order)
-        loops, tangled = noded.node(everything, self.reaches)
+        loops, tangled = noded.node(everything, self.touch, self.noise)
         for at, (parcel, found) in enumerate(zip(everything, loops)):
             parcel.noded, parcel.tangled = found, at in tangled
             if parcel.layer == PARCELS:
                 noded.add_edges(self.drawn, found, 1)
         self._find_outline()
         several = [self.parcels[feature] for feature in self.order]
-        for parcel, found in zip(several, noded.to_grid(several, self.others, self.reaches.noise)):
+        for parcel, found in zip(several, noded.to_grid(several, self.others, self.noise)):
             parcel.grid = found
             noded.add_edges(self.net, found, 1)
-        self.records.renew(self.faults(), np.array([[-np.inf, -np.inf, np.inf, np.inf]]))
+        self._judge(np.array([[-np.inf, -np.inf, np.inf, np.inf]]))
+
+    def _judge(self, boxes: Array) -> Tuple[List[str], List[Dict[str, Any]]]:
+        """The faults as they are now, where parcels changed within boxes: the keys that went, and what came."""
+        net, city = dict(self.net), self._city_loops()
+        noded.add_edges(net, city, -1)
+        rows = [(*a, *b, value) for (a, b), value in sorted(net.items())]
+        found = faults_of(np.array(rows, dtype=np.int64).reshape(-1, 5))
+        gaps = [(fault, None) for fault in found if fault.depth < 0]
+        over = self.coverings.of([fault for fault in found if fault.depth > 0], city, boxes)
+        return self.records.renew([*gaps, *over], boxes)
 
     def _with_city(self, features: Iterable[int]) -> List[Parcel]:
         found = [self.parcels[feature] for feature in features]
@@ -112,14 +125,15 @@ class Neighbourhood:
             noded.add_edges(edges, self.city.noded, 1)
         if not edges:
             raise NotLocal("the parcels leave no outline")
-        points, index = points_of(np.array(list(edges), dtype=float).reshape(-1, 2))
-        self.parts = _outlines(points, index.reshape(-1, 2))
-        if self.city is not None and len(self.parts) > 1:
-            raise NotLocal("the city has several parts")
-        own = {corner for edge in self.drawn for corner in edge}
-        corners = [
-            corner for part in self.parts for corner in map(tuple, np.asarray(part.exterior.coords)[:-1].tolist())
+        self.outlines = outlines(*noded.sides_left(edges), self.city is not None)
+        if self.city is not None and (len(self.outlines.parts) > 1 or any(self.outlines.left_out)):
+            raise NotLocal("the city has holes, or several parts")
+        loops = self.outlines.loops()
+        self.rings = [
+            loops.corners[loops.starts[at] : loops.starts[at + 1]] for at in range(len(loops)) if loops.part[at] == 0
         ]
+        own = {corner for edge in self.drawn for corner in edge}
+        corners = [corner for ring in self.rings for corner in map(tuple, ring.tolist())]
         self.others = np.array([corner for corner in corners if corner not in own], dtype=float).reshape(-1, 2)
         return before ^ set(map(tuple, self.others.tolist()))
 
@@ -185,7 +199,7 @@ class Neighbourhood:
     def _parcel(self, feature: int, number: str, shape: Any) -> Parcel:
         """A parcel of a shape, whose coordinates are those that are known, but for noise."""
         loops = loops_of([shape], self.scale, PARCELS)
-        if np.abs(loops.corners).max() > FARTHEST or noise_of(loops.corners) > self.reaches.noise:
+        if np.abs(loops.corners).max() > FARTHEST or noise_of(loops.corners) > self.noise:
             raise NotLocal("a corner lies farther out than the layer did")
         corners = np.column_stack([self._known(axis, loops.corners[:, axis]) for axis in (0, 1)])
         raw = [corners[loops.starts[at] : loops.starts[at + 1]] for at in range(len(loops))]
@@ -193,7 +207,7 @@ class Neighbourhood:
 
     def _known(self, axis: int, values: Array) -> Array:
         """Values in place of which stand those that are known, where they differ by noise alone."""
-        known, noise = self.known[axis], self.reaches.noise
+        known, noise = self.known[axis], self.noise
         at = np.clip(np.searchsorted(known, values), 1, len(known) - 1)
         nearest = np.where(values - known[at - 1] <= known[at] - values, known[at - 1], known[at])
         whole = np.rint(values)
@@ -204,7 +218,7 @@ class Neighbourhood:
 
     def _renew(self, touched: "set[noded.Corner]", fresh: List[int]) -> Tuple[List[str], List[Dict[str, Any]]]:
         """Nodes what corners that came or went concern, and the faults."""
-        reach = float(self.reaches.of_layer.max()) * 2 + self.reaches.noise + 1e-6
+        reach = self.touch + self.noise + 1e-6
         here = self._with_side_at(touched, reach, "raw") | set(fresh)
         moved = self._node(here, reach) | touched
         others = self._find_outline()
@@ -214,7 +228,7 @@ class Neighbourhood:
         if touched:
             corners = np.array(list(touched))
             boxes.append(np.concatenate([corners.min(axis=0), corners.max(axis=0)]))
-        return self.records.renew(self.faults(), np.array(boxes).reshape(-1, 4))
+        return self._judge(np.array(boxes).reshape(-1, 4))
 
     def _node(self, here: Set[int], reach: float) -> "set[noded.Corner]":
         """Nodes parcels anew; the corners that came or went."""
@@ -223,7 +237,7 @@ class Neighbourhood:
             return set()
         if any(parcel.tangled for parcel in around if parcel.layer == PARCELS):
             raise NotLocal("a parcel here is narrower than what touches")
-        loops, tangled = noded.node(around, self.reaches)
+        loops, tangled = noded.node(around, self.touch, self.noise)
         if tangled:
             raise NotLocal("a parcel here is narrower than what touches")
         moved: Set[noded.Corner] = set()
@@ -243,7 +257,7 @@ class Neighbourhood:
         assert self.city is not None
         sides = noded.sides_of(self.city.raw)
         features = self._meeting(sides + (-reach, -reach, reach, reach))
-        loops, _ = noded.node([*(self.parcels[one] for one in features), self.city], self.reaches)
+        loops, _ = noded.node([*(self.parcels[one] for one in features), self.city], self.touch, self.noise)
         return loops[-1]
 
     def _grid(self, there: Set[int]) -> None:
@@ -253,7 +267,7 @@ class Neighbourhood:
             return
         box = noded.box_of([loop for parcel in around for loop in parcel.noded]) + (-GRID, -GRID, GRID, GRID)
         inside = (self.others >= box[:2]).all(axis=1) & (self.others <= box[2:]).all(axis=1)
-        for parcel, found in zip(around, noded.to_grid(around, self.others[inside], self.reaches.noise)):
+        for parcel, found in zip(around, noded.to_grid(around, self.others[inside], self.noise)):
             if parcel.feature in there:
                 if parcel.grid:
                     noded.add_edges(self.net, parcel.grid, -1)
@@ -294,18 +308,9 @@ class Neighbourhood:
             close = close[meets.all(axis=2).any(axis=1)]
         return [self.order[at] for at in close.tolist() if self.order[at] in self.parcels]
 
-    def faults(self) -> List[Any]:
-        """The gaps and overlaps, as the package bounds them."""
-        net, city = dict(self.net), self._city_loops()
-        noded.add_edges(net, city, -1)
-        self.origin = without_straight(city[0])[0]
-        rows = [(*a, *b, value) for (a, b), value in sorted(net.items())]
-        return faults_of(np.array(rows, dtype=np.int64).reshape(-1, 5))
-
     def _city_loops(self) -> List[Array]:
         """The outer rings of the city's parts on the grid, with the ends of what does not balance."""
-        rings = [np.floor(np.asarray(part.exterior.coords)[:-1, :2] + 0.5) for part in self.parts]
-        rings = [ring if Polygon(ring).exterior.is_ccw else ring[::-1] for ring in rings]
+        rings = [np.floor(ring + 0.5) for ring in self.rings]
         ends = np.array([corner for edge in self.net for corner in edge], dtype=float).reshape(-1, 2)
         found = []
         for ring in rings:
@@ -317,13 +322,13 @@ class Neighbourhood:
 
     def open_gaps(self) -> List[OpenGap]:
         """The open gaps of the outline that the parcels make; none where there is a city."""
-        least = max(LEAST_OPEN, self.reaches.touch)
-        return open_gaps(self.parts, NARROW, least) if self.city is None else []
+        least = max(LEAST_OPEN, self.touch)
+        return open_gaps(self.outlines.rings, NARROW, least) if self.city is None else []
 
     @property
     def sliver(self) -> float:
         """The width, in mm, of a sliver; 0 where there are none."""
-        return float(self.reaches.touch) if self.reaches.touch >= LEAST else 0.0
+        return self.touch if self.touch >= LEAST else 0.0
 
     def all_faults(self) -> List[Dict[str, Any]]:
         """All faults that there are now."""
@@ -332,17 +337,3 @@ class Neighbourhood:
     def near(self, box: Array) -> List[Parcel]:
         """The parcels whose boxes meet one."""
         return [self.parcels[feature] for feature in self._meeting(np.asarray(box, dtype=float)[None, :])]
-
-
-def _outlines(points: Array, ends: Array) -> List[Polygon]:
-    """As `outlines`, of directed edges between points, which balance nowhere."""
-    from shapely.geometry import MultiLineString
-    from shapely.ops import polygonize, unary_union
-
-    low, high = ends.min(axis=1), ends.max(axis=1)
-    order = np.lexsort((high, low))
-    lines = np.stack([points[low[order]], points[high[order]]], axis=1)
-    faces = list(polygonize(unary_union(MultiLineString(list(lines)))))
-    whole = unary_union([Polygon(face.exterior) for face in faces])
-    parts = getattr(whole, "geoms", [whole])
-    return [Polygon(part.exterior) for part in parts if not part.is_empty]

@@ -10,7 +10,6 @@ from typing import Any, Dict, Iterable, Iterator, List, Sequence, Set, Tuple
 import numpy as np
 from gandovel.exact import noding
 from gandovel.reading.loops import CITY, PARCELS, Loops, joined, loops_from
-from gandovel.reading.touching import Reaches
 
 Array = Any
 Corner = Tuple[Any, Any]
@@ -57,22 +56,21 @@ def by_row(loops: Loops, corners: Array, count: int) -> List[List[Array]]:
     return found
 
 
-def node(parcels: Sequence[Parcel], reaches: Reaches) -> Tuple[List[List[Array]], Set[int]]:
-    """The loops of parcels with the corners of all of them that touch their sides; and which of them are tangled."""
+def node(parcels: Sequence[Parcel], reach: float, noise: float) -> Tuple[List[List[Array]], Set[int]]:
+    """The loops of parcels with the corners of all of them that are at most `reach` (mm) off their sides; and which of
+    them are tangled."""
     loops = loops_in(parcels, "raw")
     points, loops.corners = noding.points_of(loops.corners)
-    sides, reach = reaches.of_sides(loops), reaches.of_points(loops, len(points))
     wanted, ends = np.unique(loops.corners), loops.corners[loops.nexts()]
-    expected = _expected(
-        loops, points, ends, noding.touches(points, loops.corners, ends, wanted, sides, reach), reaches
-    )
-    result, told = noding.put_in(loops, points, wanted, sides, reach, reaches.noise)
+    found = noding.touches(points, loops.corners, ends, wanted, reach, reach)
+    expected = _expected(loops, points, ends, found, noise)
+    result, told = noding.put_in(loops, points, wanted, reach, reach, noise)
     put = np.bincount(told.loop, minlength=len(loops))
     tangled = {int(loops.row[at]) for at in np.flatnonzero(put != expected)}
     return by_row(result, points[result.corners], len(parcels)), tangled
 
 
-def _expected(loops: Loops, points: Array, ends: Array, found: Array, reaches: Reaches) -> Array:
+def _expected(loops: Loops, points: Array, ends: Array, found: Array, noise: float) -> Array:
     """How many corners each loop gets where none makes a parcel invalid."""
     if not len(found):
         return np.zeros(len(loops), dtype=np.int64)
@@ -80,7 +78,8 @@ def _expected(loops: Loops, points: Array, ends: Array, found: Array, reaches: R
     off = noding._off(points, loops.corners[found[:, 0]], ends[found[:, 0]], found[:, 1])
     owners = np.cumsum(~loops.hole) - 1
     own = noding._among_own(loops, owners, len(points), loop, found[:, 1])
-    kept = noding._all_or_none(noding._same_sides(loops, ends, found), ~(off > reaches.noise) | ~own)
+    nearest = noding._nearest(owners[loop], found[:, 1], off)
+    kept = noding._all_or_none(noding._same_sides(loops, ends, found), ~(off > noise) | nearest & ~own)
     return np.bincount(loop[kept], minlength=len(loops))
 
 
@@ -94,7 +93,7 @@ def to_grid(parcels: Sequence[Parcel], others: Array, noise: float) -> List[List
     points, index = noding.points_of(np.concatenate([loops.corners, others.reshape(-1, 2)]))
     loops.corners, more = index[:count], np.unique(index[count:])
     if len(more):
-        loops, _ = noding.put_in(loops, points, more, noise / 2, noise / 2, noise)
+        loops, _ = noding.put_in(loops, points, more, noise, noise, noise)
     whole, again = noding.points_of(np.floor(points + 0.5))
     loops.corners = again[loops.corners]
     wanted = np.unique(np.concatenate([loops.corners, again[more]]))
@@ -146,3 +145,23 @@ def corners_of(loops: Iterable[Array]) -> Set[Corner]:
 def same_loops(one: Sequence[Array], other: Sequence[Array]) -> bool:
     """Whether loops are the same, corner by corner."""
     return len(one) == len(other) and all(np.array_equal(a, b) for a, b in zip(one, other))
+
+
+class Sides:
+    """Sides, each from a corner to the next, in the form in which the package asks loops for theirs."""
+
+    def __init__(self, corners: Array) -> None:
+        self.corners = corners
+
+    def nexts(self) -> Array:
+        """For each corner the position of its side's end; an end's is its own."""
+        after = np.arange(len(self.corners))
+        after[::2] += 1
+        return after
+
+
+def sides_left(net: Net) -> Tuple[Any, Array]:
+    """The sides of a net, each as often as it is there, and the points of their corners."""
+    ends = [(a, b) if value > 0 else (b, a) for (a, b), value in net.items() for _ in range(abs(value))]
+    points, index = noding.points_of(np.array(ends, dtype=float).reshape(-1, 2))
+    return Sides(index), points

@@ -5,12 +5,12 @@ import hashlib
 from typing import Any, Dict, List, Sequence, Tuple
 
 import numpy as np
+from gandovel.faults.polygons import fault_area
 from shapely import wkb
 from shapely.geometry import Polygon
 
 Array = Any
 Record = Dict[str, Any]
-SQUARE_METRE = 1_000_000
 BESIDE = 2.0
 """How near to an open gap, in mm, a parcel is beside it."""
 
@@ -22,16 +22,16 @@ class Records:
         self.place = place
         self.told: Dict[str, Record] = {}
 
-    def renew(self, faults: Sequence[Any], boxes: Array) -> Tuple[List[str], List[Record]]:
+    def renew(self, faults: Sequence[Tuple[Any, Any]], boxes: Array) -> Tuple[List[str], List[Record]]:
         """Takes the faults as they are now, where parcels changed within boxes: the keys that went, and what came."""
         before, self.told = self.told, {}
-        for fault in faults:
+        for fault, owners in faults:
             loops = [fault.outer, *fault.holes]
-            key = _key(str(fault.depth), loops)
+            key = _key(f"{fault.kind} {fault.depth}", loops)
             old = before.get(key)
-            self.told[key] = old if old is not None and not _meets(loops[0], boxes) else self._of(key, fault)
+            self.told[key] = old if old is not None and not _meets(loops[0], boxes) else self._of(key, fault, owners)
         for gap in self.place.open_gaps():
-            loops = [gap.outer.tolist(), *(hole.tolist() for hole in gap.holes)]
+            loops = [gap.outer, *gap.holes]
             key = _key("open", loops)
             old = before.get(key)
             keep = old is not None and not _meets(loops[0], boxes)
@@ -40,30 +40,21 @@ class Records:
         came = [record for key, record in self.told.items() if before.get(key) != record]
         return gone, came
 
-    def _of(self, key: str, fault: Any) -> Record:
-        width = self.place.sliver
-        kind = "gap" if fault.depth < 0 else "overlap"
-        if fault.depth < 0:
-            owners = self._bordering(fault)
-        else:
-            owners = self._beside(fault.outer, fault.holes, 0.0)
-        kind = "sliver" if width and fault.is_narrow(width) else kind
-        return self._record(key, kind, fault.area2, [fault.outer, *fault.holes], owners)
+    def _of(self, key: str, fault: Any, owners: Any) -> Record:
+        width, found = self.place.sliver, self._bordering(fault) if owners is None else owners
+        kind = "sliver" if width and fault.is_narrow(width) else fault.kind
+        return self._record(key, kind, fault.area2, [fault.outer, *fault.holes], found)
 
     def _of_open(self, key: str, gap: Any) -> Record:
-        owners = self._beside(gap.outer.tolist(), [hole.tolist() for hole in gap.holes], BESIDE)
-        return self._record(
-            key, "open_gap", gap.area2, [gap.outer.tolist(), *(it.tolist() for it in gap.holes)], owners
-        )
+        return self._record(key, "open_gap", gap.area2, [gap.outer, *gap.holes], self._beside(gap.outer, gap.holes))
 
     def _record(self, key: str, kind: str, area2: Any, loops: Sequence[Any], owners: Sequence[Any]) -> Record:
-        scale = self.place.scale
+        scale, area = self.place.scale, fault_area(area2)
         rings = [np.array([(float(x), float(y)) for x, y in loop]) / scale for loop in loops]
         return {
             "key": key,
             "kind": kind,
-            "area2_mm2": str(area2),
-            "area_m2": float(area2) / 2 / SQUARE_METRE,
+            **{name: area[name] for name in ("area2_mm2", "area_m2")},
             "numbers": list(dict.fromkeys(owner.number for owner in owners)),
             "features": [owner.feature for owner in owners],
             "shape": wkb.dumps(Polygon(rings[0], rings[1:]), hex=True),
@@ -81,21 +72,15 @@ class Records:
                     break
         return found
 
-    def _beside(self, outer: Sequence[Any], holes: Sequence[Any], most: float) -> List[Any]:
-        """The parcels that cover a part of a fault, or with `most` (mm) lie no farther from it (GEOS says)."""
-        x0, y0 = map(int, self.place.origin)  # as the package has it: what GEOS says depends on it
+    def _beside(self, outer: Sequence[Any], holes: Sequence[Any]) -> List[Any]:
+        """The parcels at most `BESIDE` from an open gap (GEOS says)."""
+        x0, y0 = (int(value) for value in outer[0])
         shape = Polygon(
             [(float(x - x0), float(y - y0)) for x, y in outer],
             [[(float(x - x0), float(y - y0)) for x, y in hole] for hole in holes],
         )
-        found = []
-        for owner in self.place.near(_box(outer, 1.0 + most)):
-            polygons = _polygons(owner, self.place.origin)
-            if most and any(one.distance(shape) <= most for one in polygons):
-                found.append(owner)
-            elif not most and any(shape.relate(one)[0] == "2" for one in polygons):
-                found.append(owner)
-        return found
+        near = self.place.near(_box(outer, 1.0 + BESIDE))
+        return [it for it in near if any(one.distance(shape) <= BESIDE for one in _polygons(it, np.array([x0, y0])))]
 
 
 def _polygons(owner: Any, origin: Array) -> List[Polygon]:

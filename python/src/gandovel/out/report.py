@@ -22,6 +22,8 @@ from shapely.ops import unary_union
 from ..arrays import Array
 from ..errors import Refused
 from ..exact.noding import LEAST
+from ..exact.rings import Number
+from ..faults.polygons import fault_area
 from ..large.cutting import boxes_of
 from ..large.shares import in_shares
 from ..program.verdicts import LayerFaults, checked, layer_faults, numbers_at, overlay_island, write_island
@@ -36,6 +38,8 @@ from .gpkg import Table, test_name, write_layers
 from .styles import STYLES
 
 SHOWN = 8
+LAYERS = {"gap": "gaps", "overlap": "overlaps", "beyond": "beyond"}
+"""The report's layer of each kind of fault."""
 CITIES = {
     "parcels": "the city is what the parcels cover",
     "layer": "the city is the layer that was given",
@@ -48,10 +52,10 @@ CITIES = {
 class Report:
     """What the program says of a register.
 
-    Frames in the register's projection, the largest area first. `gaps`, `overlaps` (layer, area2_mm2, area_m2,
-    area_how, area, unit, depth, numbers, numbers_how, touched): exact, but for the numbers of overlaps, which GEOS
-    measures. `slivers` are gaps and overlaps that are nowhere wider than what touches (measured), `open_gaps` notches
-    and channels of the city that the parcels make (measured). `split` (number, zones, zone_count, sliver, sliver_how):
+    Frames in the register's projection, the largest area first. `gaps`, `overlaps` (layer, area2_mm2, area2_most_mm2, area_m2,
+    area_how, area, unit, depth, numbers, numbers_how, touched) and `outside`, what parcels cover beyond the city: exact.
+    `slivers` are such that are nowhere wider than what touches (measured), `open_gaps` notches and channels of the city
+    that the parcels make. `split` (number, zones, zone_count, sliver, sliver_how):
     exact, but for sliver. `parts` (number, zone, area2_mm2, area_m2, area_how, share, sliver): which there are is
     exact, and areas are proved where parcels and zones tile (each area2_mm2 within 1, and those of a parcel sum to its
     own), else measured. `pairs`: (number, zone, whether the parcel is split, area2_mm2 or None) of each parcel and zone
@@ -73,12 +77,13 @@ class Report:
     touched: gpd.GeoDataFrame
     skipped: gpd.GeoDataFrame
     prepared: Prepared
+    outside: gpd.GeoDataFrame
     pairs: List[Tuple[str, str, bool, Optional[str]]]
 
     @property
     def verdict(self) -> str:
         """`tiles`, `does not tile`, or `open`: it tiles the city that it makes, which has open gaps."""
-        if len(self.gaps) or len(self.overlaps) or len(self.slivers):
+        if any(map(len, (self.gaps, self.overlaps, self.outside, self.slivers))):
             return "does not tile"
         return "open" if len(self.open_gaps) else "tiles"
 
@@ -107,8 +112,15 @@ class Report:
         return bool((self.prepared.changes.change != TOUCHED).any())
 
     def faults(self) -> gpd.GeoDataFrame:
-        """Gaps, overlaps, open gaps and slivers in one frame, of which `kind` says what they are; the largest first."""
-        kinds = (("gap", self.gaps), ("overlap", self.overlaps), ("open_gap", self.open_gaps), ("sliver", self.slivers))
+        """All faults in one frame, of which `kind` says what they are (`gap`, `overlap`, `beyond`, `open_gap`,
+        `sliver`); the largest first."""
+        kinds = (
+            ("gap", self.gaps),
+            ("overlap", self.overlaps),
+            ("beyond", self.outside),
+            ("open_gap", self.open_gaps),
+            ("sliver", self.slivers),
+        )
         frames = [frame.assign(kind=kind)[["kind", *FAULT_COLUMNS]] for kind, frame in kinds if len(frame)]
         if not frames:
             return gpd.GeoDataFrame(columns=["kind", *FAULT_COLUMNS], geometry="geometry", crs=self.gaps.crs)
@@ -124,9 +136,9 @@ class Report:
         texts += [*self.prepared.skipped_told(), _told(self, "parcels")]
         if len(self.open_gaps):
             areas = _areas(self.open_gaps["area2_mm2"], unit)
-            texts.append(f"{_count(len(self.open_gaps), 'gap')} open to the outside ({areas}, measured)")
+            texts.append(f"{_count(len(self.open_gaps), 'gap')} open to the outside ({areas})")
         if self.zones is not None:
-            if (self.gaps["layer"] == "zones").any() or (self.overlaps["layer"] == "zones").any():
+            if any((frame["layer"] == "zones").any() for frame in (self.gaps, self.overlaps, self.outside)):
                 texts.append(f"zones: {_told(self, 'zones')}")
             split = self.split_table.columns
             slivers = split.loc[split["sliver"] == 1, "sliver_how"]
@@ -136,8 +148,8 @@ class Report:
         if len(self.slivers):
             wide = f"no wider than {self.prepared.told['touch']:.2f} mm (measured)"
             texts.append(f"{_count(len(self.slivers), 'sliver')} {wide}, which `gandovel mend` closes")
-        if self.beyond:
-            texts.append(f"{_count(len(self.beyond), 'parcel')} beyond the city (measured), whose zones are not known")
+        if self.beyond and self.zones is not None:
+            texts.append(f"the zones of {_count(len(self.beyond), 'parcel')} beyond the city are not known")
         return "; ".join([*texts, CITIES[self.prepared.told["city"]]])
 
     def save(self, path: Union[str, Path]) -> None:
@@ -149,6 +161,7 @@ class Report:
             ("parcels", self.parcels_table),
             ("gaps", self.gaps),
             ("overlaps", self.overlaps),
+            ("beyond", self.outside),
             ("split", self.split_table),
             ("split_parts", self.parts_table),
         ]
@@ -194,10 +207,13 @@ def _count(number: int, noun: str) -> str:
 
 def _told(report: Report, layer: str) -> str:
     texts = []
-    for noun, frame in (("gap", report.gaps), ("overlap", report.overlaps)):
+    for noun, frame in (("gap", report.gaps), ("overlap", report.overlaps), ("part", report.outside)):
         doubled = frame.loc[frame["layer"] == layer, "area2_mm2"]
         areas = f" ({_areas(doubled, report.prepared.unit)})" if len(doubled) else ""
-        texts.append(_count(len(doubled), noun) + areas)
+        if noun != "part":
+            texts.append(_count(len(doubled), noun) + areas)
+        elif len(doubled):
+            texts.append(_count(len(doubled), noun) + f" beyond the city{areas}")
     return ", ".join(texts)
 
 
@@ -232,7 +248,7 @@ def report(prepared: Prepared, min_area: float = 1.0, progress: Optional[Progres
     if not min_area >= 0:
         raise Refused("P8", f"a least area of {min_area} m2 is none: give square metres, 0 or more")
     progress = progress or Progress()
-    faults: Dict[str, List[Dict[str, Any]]] = {"gaps": [], "overlaps": [], "slivers": []}
+    faults: Dict[str, List[Dict[str, Any]]] = {"gaps": [], "overlaps": [], "beyond": [], "slivers": []}
     pairs: Dict[Tuple[int, str], List[Member]] = defaultdict(list)
     at_fault: Dict[int, str] = {}
     beyond: Dict[str, None] = {}
@@ -272,43 +288,38 @@ def _tell(
     """Adds the faults of a layer of island `at` to `faults`, and what they are to the parcels to `at_fault`."""
     width = prepared.told["touch" if role == "parcels" else "touch_of_zones"]
     for fault, concerned in zip(found.faults, found.rows):
-        kind = "gap" if fault.depth < 0 else "overlap"
+        kind = fault.kind
         is_sliver = width >= LEAST and fault.is_narrow(width)
         corners = {corner for loop in (fault.outer, *fault.holes) for corner in loop}
-        faults["slivers" if is_sliver else f"{kind}s"].append(
+        faults["slivers" if is_sliver else LAYERS[kind]].append(
             {
                 "what": kind,
                 "layer": role,
                 "island": at,
                 **_area_columns(fault.area2, prepared.unit),
-                "area_how": "exact" if isinstance(fault.area2, int) else "exact fraction",
                 "depth": fault.depth,
                 "numbers": ",".join(numbers_at(prepared, rows, concerned, role)),
-                "numbers_how": "exact" if kind == "gap" else "measured",
+                "numbers_how": "exact",
                 "touched": len(corners & touched),
                 "geometry": prepared.polygon(fault.outer, fault.holes),
             }
         )
         if role == "parcels" and not is_sliver:
             for row in concerned:
-                if kind == "overlap" or rows.source[row] not in at_fault:
+                if kind != "gap" or rows.source[row] not in at_fault:
                     at_fault[rows.source[row]] = kind
 
 
-def _area_columns(area2: Union[int, Fraction], unit: Unit) -> Dict[str, Any]:
+def _area_columns(area2: Number, unit: Unit) -> Dict[str, Any]:
     """An area as a fault's columns have it: `area` is in the squares of the layer's unit."""
-    return {
-        "area2_mm2": str(area2),
-        "area_m2": float(area2) / 2 / SQUARE_METRE,
-        "area": float(area2) / 2 / unit.millimetres**2,
-        "unit": f"{unit.symbol}2",
-    }
+    return {**fault_area(area2), "area": float(area2) / 2 / unit.millimetres**2, "unit": f"{unit.symbol}2"}
 
 
 FAULT_COLUMNS = [
     "layer",
     "island",
     "area2_mm2",
+    "area2_most_mm2",
     "area_m2",
     "area_how",
     "area",
@@ -326,11 +337,13 @@ def _open_gaps(prepared: Prepared) -> gpd.GeoDataFrame:
     rows = []
     boxes = [boxes_of(island.parcels.rings) for island in prepared.islands] if prepared.open_gaps else []
     for gap in prepared.open_gaps:
-        shape = Polygon(gap.outer - gap.outer[0], [hole - gap.outer[0] for hole in gap.holes])
+        x0, y0 = (int(value) for value in gap.outer[0])
+        outer, *holes = ([(float(x - x0), float(y - y0)) for x, y in ring] for ring in (gap.outer, *gap.holes))
+        shape = Polygon(outer, holes)
         numbers: Dict[str, None] = {}
         islands = []
         for at, island in enumerate(prepared.islands, 1):
-            beside = _beside(shape, gap.outer, island.parcels, boxes[at - 1])
+            beside = _beside(shape, np.array([x0, y0]), island.parcels, boxes[at - 1])
             numbers.update(dict.fromkeys(numbers_at(prepared, island.parcels, beside, "parcels")))
             islands += [at] * bool(beside)
         rows.append(
@@ -338,7 +351,6 @@ def _open_gaps(prepared: Prepared) -> gpd.GeoDataFrame:
                 "layer": "parcels",
                 "island": min(islands, default=1),
                 **_area_columns(gap.area2, prepared.unit),
-                "area_how": "measured",
                 "depth": -1,
                 "numbers": ",".join(numbers),
                 "numbers_how": "measured",
@@ -349,11 +361,11 @@ def _open_gaps(prepared: Prepared) -> gpd.GeoDataFrame:
     return gpd.GeoDataFrame(rows, columns=FAULT_COLUMNS, geometry="geometry", crs=prepared.crs)
 
 
-def _beside(shape: Polygon, corners: Array, rows: Rows, boxes: Array) -> List[int]:
-    """The rows (from 0; their boxes) at most 2 mm from a shape, which is given from its first corner on."""
-    low, high = corners.min(axis=0) - 2, corners.max(axis=0) + 2
-    near = np.flatnonzero((boxes[:, :2] <= high).all(axis=1) & (boxes[:, 2:] >= low).all(axis=1))
-    return [row for row in near.tolist() if Polygon(rows.rings[row] - corners[0]).distance(shape) <= 2]
+def _beside(shape: Polygon, origin: Array, rows: Rows, boxes: Array) -> List[int]:
+    """The rows (from 0; their boxes) at most 2 mm from a shape, which is given from an origin on."""
+    low, high = np.array(shape.bounds).reshape(2, 2) + origin
+    near = np.flatnonzero((boxes[:, :2] <= high + 2).all(axis=1) & (boxes[:, 2:] >= low - 2).all(axis=1))
+    return [row for row in near.tolist() if Polygon(rows.rings[row] - origin).distance(shape) <= 2]
 
 
 def _skipped(prepared: Prepared) -> gpd.GeoDataFrame:
@@ -399,6 +411,7 @@ def _put_together(
         prepared.touched_frame(),
         _skipped(prepared),
         prepared,
+        frames["beyond"],
         [
             (prepared.numbers[row], zone, len(zones_of[row]) > 1, _text_of(summed(pairs[row, zone])))
             for row in sorted(zones_of)

@@ -18,6 +18,7 @@ FAULT_KEYS = (
     "layer",
     "island",
     "area2_mm2",
+    "area2_most_mm2",
     "area_m2",
     "area_how",
     "area",
@@ -68,6 +69,7 @@ def counts_of(report: Report, prepared: Prepared) -> Dict[str, int]:
     return {
         "gaps": len(report.gaps),
         "overlaps": len(report.overlaps),
+        "beyond": len(report.outside),
         "open_gaps": len(report.open_gaps),
         "slivers": len(report.slivers),
         "touched": prepared.told["touched"],
@@ -78,7 +80,7 @@ def counts_of(report: Report, prepared: Prepared) -> Dict[str, int]:
 
 
 def faults_of(report: Report) -> List[Dict[str, Any]]:
-    """Gaps, overlaps, open gaps and slivers, each as a dictionary; the largest area first."""
+    """Gaps, overlaps, what lies beyond the city, open gaps and slivers, each as a dictionary; the largest area first."""
     frame = report.faults()
     found = []
     for row, shape in zip(frame[list(FAULT_KEYS)].to_dict("records"), frame.geometry):
