@@ -7,7 +7,8 @@ from dataclasses import dataclass
 from pathlib import Path
 from typing import Any, Dict, List, Optional, Sequence
 
-from .program import NO_PROGRAM, Ended, NotFound, Watcher, run
+from .program import Ended, NotFound, Watcher, no_program, run
+from .words import counted, tr
 
 PACKAGE_SIDE = Path(__file__).with_name("package_side") / "answer.py"
 """What the package's own Python runs where the package has no command for it."""
@@ -36,12 +37,26 @@ class Refusal:
     y: Optional[float] = None
 
     def __str__(self) -> str:
+        if self.code == NOT_TILING:
+            return self._not_tiling()
         owner = {"zones": "zone", "points": "point in row"}.get(self.role, "parcel")
         parts = [f"{self.role}: " if self.role else "", f"{self.code} "]
         parts.append(f"{owner} {self.number}: " if self.number is not None else "")
         where = f" at ({self.x:.3f}, {self.y:.3f})" if self.x is not None and self.y is not None else ""
         parts.append(self.text if not where or _PLACE.search(self.text) else self.text + where)
         return "".join(parts).rstrip()
+
+    def _not_tiling(self) -> str:
+        """A layer that does not tile, in words: the program's own are an edge and how often it is covered."""
+        layer = tr("The zones") if self.role == "zones" else tr("The parcels")
+        place = _PLACE.search(self.text)
+        if place is None:
+            return tr("{layer} do not tile the city.", layer=layer)
+        return tr("{layer} do not tile the city: there is a fault at ({x}, {y}).", layer=layer, x=place[1], y=place[2])
+
+
+NOT_TILING = "H2"
+"""The code of a layer that has to tile, and does not."""
 
 
 class Refused(Exception):
@@ -77,7 +92,7 @@ def _answer_of(ended: Ended) -> Answer:
         return answer
     refusals = [_refusal_of(row) for row in (answer or {}).get("refused", [])] or [_of_line(line) for line in errors]
     if any(refusal.code == "T1" for refusal in refusals):
-        raise NotFound(f"{NO_PROGRAM} ({'; '.join(refusal.text for refusal in refusals)})")
+        raise NotFound(f"{no_program()} ({'; '.join(refusal.text for refusal in refusals)})")
     if refusals:
         raise Refused(refusals)
     last = (ended.errors or [""])[-1]
@@ -125,29 +140,67 @@ def notes_of(answer: Answer) -> List[str]:
     city, touched, skipped = answer.get("city") or {}, answer.get("touched") or {}, answer.get("skipped") or []
     notes = []
     if city.get("from") == "parcels":
-        notes.append("The city's outline is made of the parcels; give a layer of it to find gaps along it.")
+        notes.append(tr("The city's outline is made of the parcels; give a layer of it to find gaps along it."))
     if int(city.get("islands", 1)) > 1:
-        notes.append(f"The city has {city['islands']} parts that do not touch one another.")
+        notes.append(tr("The city has {count} parts that do not touch one another.", count=city["islands"]))
     if touched.get("corners"):
         closed = f"{float(touched.get('closed_m2') or 0):.4f} m²"
         largest = f"{float(touched.get('largest_mm') or 0):.2f} mm"
-        notes.append(f"{touched['corners']} corners were made to touch, at most {largest} off; this closed {closed}.")
+        text = "{count} corners were made to touch, at most {largest} off; this closed {closed}."
+        notes.append(tr(text, count=touched["corners"], largest=largest, closed=closed))
     if skipped:
-        numbers = ", ".join(str(row.get("number")) for row in skipped[:20])
-        notes.append(f"{len(skipped)} features were skipped: {numbers}{', ..' if len(skipped) > 20 else ''}")
+        numbers = ", ".join(str(row.get("number")) for row in skipped[:20]) + (", .." if len(skipped) > 20 else "")
+        notes.append(tr("{count} features were skipped: {numbers}", count=len(skipped), numbers=numbers))
     return [*notes, *map(str, answer.get("lost") or [])]
 
 
+def counts_by_layer(answer: Answer) -> Dict[str, Dict[str, int]]:
+    """How many faults of each kind each layer (parcels, zones) has; of an answer that lists none, all are the
+    parcels'."""
+    found: Dict[str, Dict[str, int]] = {"parcels": dict.fromkeys(KINDS, 0)}
+    if "faults" not in answer:
+        return {"parcels": counts_of(answer)}
+    for fault in answer["faults"]:
+        kinds = found.setdefault(str(fault.get("layer", "parcels")), dict.fromkeys(KINDS, 0))
+        kinds[str(fault["kind"])] = kinds.get(str(fault["kind"]), 0) + 1
+    return found
+
+
+def counts_text(counts: Dict[str, int]) -> str:
+    """The count of each kind of fault, in words."""
+    beyond = counted(counts["beyond"], tr("1 part beyond the city"), tr("{count} parts beyond the city"))
+    return ", ".join(
+        (
+            counted(counts["gap"], tr("1 gap"), tr("{count} gaps"), tr("no gaps")),
+            counted(counts["overlap"], tr("1 overlap"), tr("{count} overlaps"), tr("no overlaps")),
+            *([beyond] if counts["beyond"] else []),
+            counted(counts["open_gap"], tr("1 open gap"), tr("{count} open gaps"), tr("no open gaps")),
+            counted(counts["sliver"], tr("1 sliver"), tr("{count} slivers"), tr("no slivers")),
+        )
+    )
+
+
 def verdict_of(answer: Answer) -> str:
-    """One line: the verdict and the count of each kind of fault."""
-    counts = counts_of(answer)
-    beyond = [("beyond", "part beyond the city")] if counts["beyond"] else []
-    names = [("gap", "gap"), ("overlap", "overlap"), *beyond, ("open_gap", "open gap"), ("sliver", "sliver")]
-    told = ", ".join(f"{counts[kind] or 'no'} {_plural(name, counts[kind])}" for kind, name in names)
-    verdict = {"tiles": "The parcels tile the city", "does not tile": "The parcels do not tile the city"}
-    return f"{verdict.get(answer.get('verdict', ''), 'The verdict is open')}: {told}."
+    """The verdict in words, with the count of each kind of fault; of parcels and zones each its own."""
+    layers = counts_by_layer(answer)
+    counts = layers["parcels"]
+    if not any(counts.values()) and answer.get("verdict") != "open":
+        text = tr("The parcels tile the city: {counts}.", counts=counts_text(counts))
+    elif any(counts[kind] for kind in ("gap", "overlap", "beyond", "sliver")):
+        text = tr("The parcels do not tile the city: {counts}.", counts=counts_text(counts))
+    else:
+        text = tr("The verdict is open: {counts}.", counts=counts_text(counts))
+    zones = layers.get("zones")
+    if zones is not None and any(zones.values()):
+        text += " " + tr("The zones do not tile the city: {counts}.", counts=counts_text(zones))
+    return text
 
 
-def _plural(name: str, count: int) -> str:
-    first, space, rest = name.partition(" beyond")
-    return f"{first}{'' if count == 1 else 's'}{space}{rest}"
+def largest_of(answer: Answer) -> List[str]:
+    """A sentence on the largest fault of an answer: where it is, and at which parcels; none where it has none."""
+    fault = next(iter(answer.get("faults", [])), None)
+    if fault is None:
+        return []
+    numbers = ", ".join(map(str, fault.get("numbers", [])))
+    text = "The largest is at ({x}, {y}), at the parcels {numbers}."
+    return [tr(text, x=f"{float(fault['x']):.3f}", y=f"{float(fault['y']):.3f}", numbers=numbers)]

@@ -4,6 +4,7 @@ from __future__ import annotations
 import tempfile
 from dataclasses import dataclass, field
 from fractions import Fraction
+from functools import cached_property
 from pathlib import Path
 from typing import Any, Callable, Collection, Dict, List, Optional
 
@@ -11,8 +12,10 @@ from qgis.core import QgsGeometry, QgsProject, QgsTask, QgsVectorLayer, QgsVecto
 
 from . import answers
 from .answers import KINDS, LAYERS, Answer, Refused
+from .identity import identity_of
 from .layers import LayerFault, Written, read_layer, write_layer
 from .program import Cancelled, NotFound
+from .words import tr
 
 STEPS = 12
 
@@ -28,22 +31,37 @@ class Fault:
     area2_mm2: str
     shape: QgsGeometry
 
+    @cached_property
+    def exact_area(self) -> Fraction:
+        """Twice its area in mm2."""
+        return Fraction(self.area2_mm2)
+
+    @cached_property
+    def identity(self) -> str:
+        """By what it is known again."""
+        return identity_of(self.kind, self.layer, self.area2_mm2, self.shape)
+
 
 @dataclass(frozen=True)
 class Outcome:
     """What a check found; or why there is none.
 
     `refused_features` are those that are refused, by the role of their layer (parcels, city); `owners` the features of
-    the parcels by their numbers.
+    the parcels by their numbers. `touch` is how near to a border, in mm, a corner touches it; `at` and `city`
+    the layers as they were written.
     """
 
     faults: List[Fault]
     verdict: str = ""
     notes: tuple[str, ...] = ()
+    tiles: bool = False
     refused: str = ""
     refused_features: Dict[str, List[int]] = field(default_factory=dict)
     owners: Dict[str, List[int]] = field(default_factory=dict)
     cancelled: bool = False
+    touch: Optional[float] = None
+    at: Optional[Written] = None
+    city: Optional[Written] = None
 
 
 class Snapshot:
@@ -80,13 +98,17 @@ class CheckTask(QgsTask):
         city: Optional[QgsVectorLayer],
         unit: str,
         done: Callable[[Outcome], None],
+        touch: Optional[float] = None,
+        keep: Optional[str] = None,
     ) -> None:
-        self.title = f"Gandovel: check of {layer.name()}"
-        super().__init__(self.title, QgsTask.CanCancel)
+        """`touch` (mm) is that of an earlier check of the layer; `keep` a folder for what the package reads."""
+        self.title = tr("Gandovel: check of {layer}", layer=layer.name())
+        super().__init__(self.title, QgsTask.Flag.CanCancel)
         self.parcels, self.number, self.unit, self.done = Snapshot(layer), number, unit, done
+        self.touch, self.keep = touch, keep
         self.city = Snapshot(city) if city is not None else None
         self.context = QgsProject.instance().transformContext()
-        self.steps = 0
+        self.steps, self.told = 0, ""
         self.outcome = Outcome([], cancelled=True)
 
     def is_cancelled(self) -> bool:
@@ -95,7 +117,7 @@ class CheckTask(QgsTask):
 
     def step(self, text: str) -> None:
         """The package begins its next step."""
-        self.steps += 1
+        self.steps, self.told = self.steps + 1, text
         self.setDescription(f"Gandovel: {text}")
         self.setProgress(100.0 * self.steps / (self.steps + STEPS / 3.0))
 
@@ -104,7 +126,7 @@ class CheckTask(QgsTask):
         with tempfile.TemporaryDirectory(prefix="gandovel-") as folder:
             written: Dict[str, Written] = {}
             try:
-                self.outcome = self._checked(folder, written)
+                self.outcome = self._checked(self.keep or folder, written)
             except Refused as refused:
                 self.outcome = Outcome([], refused=_line(refused), refused_features=_concerned(refused, written))
             except Cancelled:
@@ -112,11 +134,13 @@ class CheckTask(QgsTask):
             except (NotFound, LayerFault) as fault:
                 self.outcome = Outcome([], refused=str(fault))
             except Exception as fault:  # pylint: disable=broad-except
-                self.outcome = Outcome([], refused=f"The check failed: {type(fault).__name__}: {fault}")
+                text = tr("The check failed: {reason}", reason=f"{type(fault).__name__}: {fault}")
+                self.outcome = Outcome([], refused=text)
         self.setDescription(self.title)
         return True  # a refusal is an outcome, too: QGIS says nothing of its own then
 
     def _checked(self, folder: str, written: Dict[str, Written]) -> Outcome:
+        self.step(tr("writing the layer"))
         written["parcels"] = self._written(self.parcels, folder, "parcels", self.number)
         out = str(Path(folder) / "report.gpkg")
         parcels = written["parcels"]
@@ -124,10 +148,21 @@ class CheckTask(QgsTask):
         if self.city is not None:
             written["city"] = self._written(self.city, folder, "city", None)
             options["city"] = written["city"].path
+        if self.touch is not None:
+            options["touch"] = repr(self.touch)
         answer: Answer = answers.report(parcels.path, out, options, folder, self)
         owners = parcels.features
-        faults = sorted(faults_in(out, owners), key=lambda it: (-Fraction(it.area2_mm2), it.kind, it.numbers))
-        return Outcome(faults, answers.verdict_of(answer), tuple(answers.notes_of(answer)), owners=owners)
+        faults = sorted(faults_in(out, owners), key=lambda it: (-it.exact_area, it.kind, it.numbers))
+        told = answers.verdict_of(answer), tuple(answers.notes_of(answer)), answer.get("verdict") == "tiles"
+        touch = answer.get("touch_mm")
+        return Outcome(
+            faults,
+            *told,
+            owners=owners,
+            touch=None if touch is None else float(touch),
+            at=parcels,
+            city=written.get("city"),
+        )
 
     def _written(self, source: Snapshot, folder: str, name: str, number: Optional[str]) -> Written:
         return write_layer(source, folder, name, number, self.context, self.is_cancelled, False, self.unit)
@@ -139,7 +174,8 @@ class CheckTask(QgsTask):
 
 def _line(refused: Refused) -> str:
     more = len(refused.refusals) - 1
-    return f"{refused.refusals[0]}{f' (and {more} more)' if more else ''}"
+    tail = " " + tr("(and {count} more)", count=more) if more else ""
+    return f"{refused.refusals[0]}{tail}"
 
 
 def _concerned(refused: Refused, written: Dict[str, Written]) -> Dict[str, List[int]]:

@@ -3,21 +3,20 @@ from __future__ import annotations
 
 from typing import Any, Dict
 
-from qgis.PyQt.QtCore import QVariant
 
 from .answers import LAYERS
-from .layers import fields_of, fill, read_layer
+from .layers import NUMBER, TEXT, WHOLE, fields_of, fill, read_layer
 
 FAULT_COLUMNS = (
-    ("kind", QVariant.String),
-    ("layer", QVariant.String),
-    ("island", QVariant.Int),
-    ("numbers", QVariant.String),
-    ("numbers_how", QVariant.String),
-    ("area_m2", QVariant.Double),
-    ("area2_mm2", QVariant.String),
-    ("area_how", QVariant.String),
-    ("depth", QVariant.Int),
+    ("kind", TEXT),
+    ("layer", TEXT),
+    ("island", WHOLE),
+    ("numbers", TEXT),
+    ("numbers_how", TEXT),
+    ("area_m2", NUMBER),
+    ("area2_mm2", TEXT),
+    ("area_how", TEXT),
+    ("depth", WHOLE),
 )
 
 

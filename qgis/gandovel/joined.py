@@ -5,19 +5,18 @@ from collections import defaultdict
 from typing import Any, Dict, Iterator, List, Optional, Tuple
 
 from qgis.core import QgsFeature, QgsFeatureRequest, QgsField, QgsFields, QgsGeometry, QgsSpatialIndex, QgsVectorLayer
-from qgis.PyQt.QtCore import QVariant
 
-from .layers import RESERVED, add, fields_of
+from .layers import NUMBER, RESERVED, TEXT, WHOLE, add, fields_of
 
 COLUMNS = (
-    ("number", QVariant.String),
-    ("zone", QVariant.String),
-    ("zone_how", QVariant.String),
-    ("split", QVariant.Int),
-    ("area2_mm2", QVariant.String),
-    ("area_m2", QVariant.Double),
-    ("share", QVariant.Double),
-    ("area_how", QVariant.String),
+    ("number", TEXT),
+    ("zone", TEXT),
+    ("zone_how", TEXT),
+    ("split", WHOLE),
+    ("area2_mm2", TEXT),
+    ("area_m2", NUMBER),
+    ("share", NUMBER),
+    ("area_how", TEXT),
 )
 OWN = (*RESERVED, "number", "records", "status")
 """Columns of a report that are no attributes of the user's layers."""
@@ -41,7 +40,7 @@ class Joined:
         self.by_name = {str(feature["number"]): feature for feature in reversed(list(self.zones.values()))}
         self.index = QgsSpatialIndex(zones.getFeatures())
         self.parts: Dict[str, List[QgsFeature]] = defaultdict(list)
-        for part in parts.getFeatures(QgsFeatureRequest().setFlags(QgsFeatureRequest.NoGeometry)):
+        for part in parts.getFeatures(QgsFeatureRequest().setFlags(QgsFeatureRequest.Flag.NoGeometry)):
             self.parts[str(part["number"])].append(part)
         self.attributes = [_others(parcels, "parcel_"), _others(zones, "zone_")]
 

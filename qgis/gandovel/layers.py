@@ -19,15 +19,16 @@ from qgis.core import (
     QgsVectorLayer,
 )
 
-from qgis.PyQt.QtCore import QVariant
-
 from .answers import Refusal
 from .program import Cancelled
+from .words import tr
 
 ROW = "row"
 """The column of the numbers where rows are numbered, from 1."""
 RESERVED = ("fid", "ogc_fid", "geom", "geometry")
 """Columns that a GeoPackage has of its own."""
+TEXT, WHOLE, LONG, NUMBER = "string(0,0)", "integer(0,0)", "int8(0,0)", "double(0,0)"
+"""The types of columns, as a layer in memory calls them."""
 STYLES = Path(__file__).with_name("styles")
 LOOK_EVERY = 1000
 """After how many features it is looked whether the user cancelled."""
@@ -50,6 +51,8 @@ class Written:
     path: str
     column: str
     features: Dict[str, List[int]] = field(default_factory=dict)
+    rows: List[int] = field(default_factory=list)
+    """The feature of each row."""
 
     def concerned(self, refusal: Refusal) -> List[int]:
         """The features of the layer that a refusal is about: by their number, without one those that have none."""
@@ -78,31 +81,40 @@ def write_layer(
     path = str(Path(folder) / f"{name}.gpkg")
     number = _field_of(source.fields(), number, name)
     kept, fields, column = _columns(source.fields(), number, attributes)
-    options = QgsVectorFileWriter.SaveVectorOptions()
-    options.driverName, options.layerName = "GPKG", name
-    options.layerOptions = ["FID=gandovel_fid", "GEOMETRY_NAME=gandovel_geometry", "SPATIAL_INDEX=NO"]
-    crs = _projection(source, name, unit)
-    writer = QgsVectorFileWriter.create(path, fields, source.wkbType(), crs, context, options)
-    if writer.hasError() != QgsVectorFileWriter.NoError:
-        raise LayerFault(f"The layer {name} can't be written for the check: {writer.errorMessage()}")
+    writer = _writer(path, name, fields, source.wkbType(), _projection(source, name, unit), context)
     written = Written(path, column)
-    found: Dict[str, List[int]] = defaultdict(list)
     at_number = source.fields().lookupField(number) if number else -1
+    found: Dict[str, List[int]] = defaultdict(list)
     for row, feature in enumerate(every_feature(source, cancelled), 1):
         values = feature.attributes()
         copy = QgsFeature(fields)
         copy.setGeometry(feature.geometry())
         copy.setAttributes([values[at] for at in kept] + ([row] if number == "" else []))
         if not writer.addFeature(copy):
-            raise LayerFault(
-                f"Feature {feature.id()} of {name} can't be written for the check: {writer.errorMessage()}"
-            )
+            raise LayerFault(_unwritten(name, writer))
         found[str(row) if at_number < 0 else text_of(values[at_number])].append(feature.id())
+        written.rows.append(feature.id())
     del writer
     if not found:
-        raise LayerFault(f"The layer {name} has no feature: choose another, or do not ask for the selected ones alone.")
+        text = "The layer {name} has no feature: choose another, or do not ask for the selected ones alone."
+        raise LayerFault(tr(text, name=name))
     written.features = dict(found)
     return written
+
+
+def _writer(path: str, name: str, fields: QgsFields, kind: Any, crs: Any, context: Any) -> QgsVectorFileWriter:
+    """What writes a layer of a GeoPackage, whose own columns have names that no layer has. Raises `LayerFault`."""
+    options = QgsVectorFileWriter.SaveVectorOptions()
+    options.driverName, options.layerName = "GPKG", name
+    options.layerOptions = ["FID=gandovel_fid", "GEOMETRY_NAME=gandovel_geometry", "SPATIAL_INDEX=NO"]
+    writer = QgsVectorFileWriter.create(path, fields, kind, crs, context, options)
+    if writer.hasError() != QgsVectorFileWriter.WriterError.NoError:
+        raise LayerFault(_unwritten(name, writer))
+    return writer
+
+
+def _unwritten(name: str, writer: Any) -> str:
+    return tr("The layer {name} can't be written for the check: {reason}", name=name, reason=writer.errorMessage())
 
 
 def _field_of(fields: QgsFields, number: Optional[str], name: str) -> Optional[str]:
@@ -111,7 +123,8 @@ def _field_of(fields: QgsFields, number: Optional[str], name: str) -> Optional[s
         return number
     at = fields.lookupField(number)
     if at < 0:
-        raise LayerFault(f"The layer {name} has no field {number}: choose one of {', '.join(fields.names())}.")
+        text = "The layer {name} has no field {field}: choose one of {names}."
+        raise LayerFault(tr(text, name=name, field=number, names=", ".join(fields.names())))
     return str(fields[at].name())
 
 
@@ -121,7 +134,8 @@ def _projection(source: Any, name: str, unit: str) -> QgsCoordinateReferenceSyst
     if crs.isValid() and not crs.description().startswith(UNDEFINED):
         return crs
     if unit not in UNITS:
-        raise LayerFault(f"The layer {name} has no projection: give it one, or name the unit of its coordinates.")
+        text = "The layer {name} has no projection: give it one, or name the unit of its coordinates."
+        raise LayerFault(tr(text, name=name))
     title, metres = UNITS[unit]
     return QgsCoordinateReferenceSystem.fromWkt(
         f'LOCAL_CS["plane in {title}",UNIT["{title}",{metres}],AXIS["Easting",EAST],AXIS["Northing",NORTH]]'
@@ -145,7 +159,7 @@ def _columns(fields: QgsFields, number: Optional[str], attributes: bool) -> tupl
     if number == "":
         while column.lower() in used:
             column += "_"
-        written.append(QgsField(column, QVariant.LongLong))
+        written.append(fields_of([(column, LONG)])[0])
     return kept, written, column
 
 
@@ -153,7 +167,7 @@ def every_feature(source: Any, cancelled: Callable[[], bool]) -> Iterator[QgsFea
     """The features of a source, invalid ones too: it is the package that names them. Raises `Cancelled`."""
     request = QgsFeatureRequest()
     if isinstance(source, QgsProcessingFeatureSource):
-        features = source.getFeatures(request, QgsProcessingFeatureSource.FlagSkipGeometryValidityChecks)
+        features = source.getFeatures(request, QgsProcessingFeatureSource.Flag.FlagSkipGeometryValidityChecks)
     else:
         features = source.getFeatures(request)
     for at, feature in enumerate(features):
@@ -181,7 +195,8 @@ def layer_of(path: str, name: str) -> QgsVectorLayer:
     """A layer that the package has to have written. Raises `LayerFault`."""
     layer = read_layer(path, name)
     if layer is None:
-        raise LayerFault(f"The package gandovel wrote no layer {name}: install the version that fits this plugin.")
+        text = "The package gandovel wrote no layer {name}: install the version that fits this plugin."
+        raise LayerFault(tr(text, name=name))
     return layer
 
 
@@ -211,13 +226,12 @@ def add(sink: Any, fields: QgsFields, values: Dict[str, Any], geometry: Any = No
     if geometry is not None:
         feature.setGeometry(geometry)
     feature.setAttributes([values.get(name) for name in fields.names()])
-    if not sink.addFeature(feature, QgsFeatureSink.FastInsert):
-        raise LayerFault(f"An output can't be written: {sink.lastError() or 'is the disk full?'}")
+    if not sink.addFeature(feature, QgsFeatureSink.Flag.FastInsert):
+        reason = sink.lastError() or tr("is the disk full?")
+        raise LayerFault(tr("An output can't be written: {reason}", reason=reason))
 
 
-def fields_of(columns: Sequence[tuple[str, Any]]) -> QgsFields:
-    """Fields of these names and types."""
-    fields = QgsFields()
-    for name, kind in columns:
-        fields.append(QgsField(name, kind))
-    return fields
+def fields_of(columns: Sequence[tuple[str, str]]) -> QgsFields:
+    """Fields of these names and types (`TEXT`, ..): those of a layer in memory, as every version of Qt has them."""
+    uri = "&".join(f"field={name}:{kind}" for name, kind in columns)
+    return QgsVectorLayer(f"None?{uri}", "fields", "memory").fields()

@@ -37,8 +37,8 @@ class Marks:
         for fault in faults:
             by_kind.setdefault(fault.kind, []).append(fault)
         for kind, several in by_kind.items():
-            area = self._band(QgsWkbTypes.PolygonGeometry, kind)
-            sign = self._band(QgsWkbTypes.PointGeometry, kind)
+            area = self._band(QgsWkbTypes.GeometryType.PolygonGeometry, kind)
+            sign = self._band(QgsWkbTypes.GeometryType.PointGeometry, kind)
             # All at once: a band looks through all that it has for each geometry that is added.
             area.addGeometry(QgsGeometry.collectGeometry([fault.shape for fault in several]), layer)
             sign.addGeometry(QgsGeometry.collectGeometry([fault.shape.pointOnSurface() for fault in several]), layer)
@@ -48,7 +48,7 @@ class Marks:
         colour = QColor(COLOURS[name])
         band.setStrokeColor(colour)
         band.setWidth(2)
-        band.setIcon(QgsRubberBand.ICON_CIRCLE)
+        band.setIcon(QgsRubberBand.IconType.ICON_CIRCLE)
         band.setIconSize(12)
         colour.setAlpha(110)
         band.setFillColor(colour)

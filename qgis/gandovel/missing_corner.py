@@ -1,4 +1,4 @@
-"""The missing corner: where a parcel has one beside a fault, and its neighbour goes straight past."""
+"""The missing corner: where parcels agree on a corner beside a fault, and their neighbour goes straight past."""
 from __future__ import annotations
 
 from dataclasses import dataclass
@@ -6,24 +6,38 @@ from typing import Dict, Iterable, List, Optional, Sequence, Tuple
 
 from qgis.core import QgsGeometry, QgsPoint, QgsPointXY, QgsUnitTypes, QgsVectorLayer
 
+from .words import tr
+
 NEAR_MM = 0.75
 """How far a corner of a fault, which is a whole millimetre, may be from the layer's own corner."""
-COMMAND = "Insert missing corners"
+AGREED = 2
+"""How many parcels have to have a corner before a neighbour without one is taken to lack it."""
 
 
 @dataclass(frozen=True)
 class Missing:
-    """A feature of the layer, and the corners of its neighbours that it lacks beside a fault, with their heights."""
+    """A feature of the layer, and the corners of its neighbours that it lacks beside a fault, with their heights.
+
+    It is `agreed` where two neighbours or more have each of these corners, and the feature has none of its own there:
+    then no sound parcel is bent by putting them in. Else it is a proposal, and the user decides.
+    """
 
     feature: int
     corners: Tuple[QgsPoint, ...]
     farthest: float
+    agreed: bool = True
 
 
 def near_of(layer: QgsVectorLayer) -> float:
     """`NEAR_MM` in the layer's unit; without a projection the unit is taken as a metre."""
-    unit = layer.crs().mapUnits() if layer.crs().isValid() else QgsUnitTypes.DistanceMeters
-    return float(NEAR_MM * QgsUnitTypes.fromUnitToUnitFactor(QgsUnitTypes.DistanceMillimeters, unit))
+    return float(NEAR_MM * millimetre_of(layer))
+
+
+def millimetre_of(layer: QgsVectorLayer) -> float:
+    """A millimetre in the layer's unit; without a projection the unit is taken as a metre."""
+    metres = QgsUnitTypes.DistanceUnit.DistanceMeters
+    unit = layer.crs().mapUnits() if layer.crs().isValid() else metres
+    return float(QgsUnitTypes.fromUnitToUnitFactor(QgsUnitTypes.DistanceUnit.DistanceMillimeters, unit))
 
 
 def missing_corners(fault: QgsGeometry, shapes: Dict[int, QgsGeometry], near: float) -> Optional[Missing]:
@@ -31,7 +45,7 @@ def missing_corners(fault: QgsGeometry, shapes: Dict[int, QgsGeometry], near: fl
 
     A corner of the fault is missing in a shape if it is a corner of another one, the shape's border goes past it inside
     an edge, and the shape changes within the fault alone when it is put in. `near` is a distance in the layer's unit.
-    Where several shapes lack corners, it is the one whose border is nearest.
+    Where several shapes lack corners, one on which the others agree comes first, then the one whose border is nearest.
     """
     corners = [QgsPointXY(vertex) for vertex in fault.vertices()]
     found: List[Missing] = []
@@ -40,23 +54,33 @@ def missing_corners(fault: QgsGeometry, shapes: Dict[int, QgsGeometry], near: fl
         one = _missing_in(feature, shape, corners, others, near)
         if one is not None and _changes_within(fault, shape, with_corners(shape, one.corners), near):
             found.append(one)
-    return min(found, key=lambda one: one.farthest) if found else None
+    return min(found, key=lambda one: (not one.agreed, one.farthest)) if found else None
 
 
 def _missing_in(
     feature: int, shape: QgsGeometry, corners: Sequence[QgsPointXY], others: Sequence[QgsGeometry], near: float
 ) -> Optional[Missing]:
     taken: List[QgsPoint] = []
-    farthest = 0.0
+    farthest, agreed = 0.0, True
     for corner in corners:
         square, place, _, _ = shape.closestSegmentWithContext(corner)
         own = _corner_near(others, corner, near)
-        if square <= near * near or own is None or _corner_near([shape], place, near) is not None:
+        has_it = count_with(others, corner, near)
+        if square <= near * near:
+            # a corner of the shape's own on which nobody agrees: it is this shape that may be wrong, or another
+            agreed = agreed and (_corner_near([shape], corner, near) is None or has_it > 0)
             continue
-        farthest = max(farthest, square)
+        if own is None or _corner_near([shape], place, near) is not None:
+            continue
+        farthest, agreed = max(farthest, square), agreed and has_it >= AGREED
         if own not in taken:
             taken.append(own)
-    return Missing(feature, tuple(taken), farthest) if taken else None
+    return Missing(feature, tuple(taken), farthest, agreed) if taken else None
+
+
+def count_with(shapes: Iterable[QgsGeometry], place: QgsPointXY, near: float) -> int:
+    """How many of the shapes have a corner at a place."""
+    return sum(_corner_near([shape], place, near) is not None for shape in shapes)
 
 
 def with_corners(shape: QgsGeometry, corners: Sequence[QgsPoint]) -> QgsGeometry:
@@ -64,7 +88,7 @@ def with_corners(shape: QgsGeometry, corners: Sequence[QgsPoint]) -> QgsGeometry
     changed = QgsGeometry(shape)
     for corner in corners:
         _, _, after, _ = changed.closestSegmentWithContext(QgsPointXY(corner))
-        changed.insertVertex(corner.x(), corner.y(), after)
+        changed.insertVertex(corner, after)
     return changed
 
 
@@ -89,7 +113,7 @@ def _corner_near(shapes: Sequence[QgsGeometry], place: QgsPointXY, near: float) 
 
 def insert(layer: QgsVectorLayer, missing: Missing) -> int:
     """Inserts the missing corners into the feature: one command, which undo takes back; how many."""
-    layer.beginEditCommand(COMMAND)
+    layer.beginEditCommand(tr("Insert missing corners"))
     count = 0
     for corner in missing.corners:
         shape = layer.getGeometry(missing.feature)

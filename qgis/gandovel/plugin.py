@@ -9,6 +9,7 @@ from qgis.PyQt.QtGui import QIcon
 
 from . import selecting
 from .provider import ICON, GandovelProvider
+from .words import tr
 
 if TYPE_CHECKING:
     from .dock import FaultDock
@@ -36,10 +37,10 @@ class GandovelPlugin:
 
         self.initProcessing()
         self.dock = FaultDock(self.iface)
-        self.iface.addDockWidget(Qt.RightDockWidgetArea, self.dock)
+        self.iface.addDockWidget(Qt.DockWidgetArea.RightDockWidgetArea, self.dock)
         self.dock.hide()
         self.action = self.dock.toggleViewAction()
-        self.action.setText("Faults of parcels")
+        self.action.setText(tr("Faults of parcels"))
         self.action.setIcon(QIcon(str(ICON)))
         self.iface.addVectorToolBarIcon(self.action)
         self.iface.addPluginToVectorMenu("Gandovel", self.action)

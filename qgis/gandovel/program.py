@@ -2,6 +2,7 @@
 from __future__ import annotations
 
 import os
+import platform
 import queue
 import shutil
 import signal
@@ -15,14 +16,37 @@ from typing import IO, Dict, List, Optional, Protocol, Sequence
 
 from qgis.core import QgsSettings
 
+from .words import tr
+
 PYTHON_SETTING, TOOL_SETTING = "GANDOVEL_PYTHON", "GANDOVEL_TOOL"
 """Settings of Processing, and variables of the environment that stand above them."""
 WHERE = "Settings > Options > Processing > Providers > Gandovel"
-NO_PACKAGE = (
-    "The Python package gandovel was not found: install it (`pip install gandovel`, or the wheel of a release) and "
-    f"name the Python that has it in {WHERE}."
-)
-NO_PROGRAM = f"The program parcel_tool was not found: install it from a release and name it in {WHERE}."
+BESIDE = Path(__file__).parent
+PACKAGE = BESIDE / "package"
+"""The side of the package that the plugin's zip brings along."""
+BUNDLED = BESIDE / "bin" / f"{platform.system().lower()}-{platform.machine()}" / "parcel_tool"
+"""The program of this system, where the zip has one."""
+HOME_ENVIRONMENT = Path("~/gandovel")
+"""Where the README has the package installed: a virtual environment in the user's folder."""
+
+
+def no_package() -> str:
+    """What is said where no Python has the package."""
+    return tr(
+        "The Python package gandovel was not found, or GeoPandas and tqdm, which it needs: install it from a release into "
+        "~/gandovel, as its README says, or name the Python that has it in {where}.",
+        where=WHERE,
+    )
+
+
+def no_program() -> str:
+    """What is said where there is no program."""
+    return tr(
+        "The program parcel_tool was not found: install it from a release, or name it in {where}.",
+        where=WHERE,
+    )
+
+
 TRIED_MODULES = ("gandovel", "geopandas", "tqdm")
 FIND = "import importlib.util as util; print(all(map(util.find_spec, {modules!r})))"
 """Looks for the modules without importing them, which would take seconds."""
@@ -70,10 +94,22 @@ def environment(folder: Optional[str] = None) -> Dict[str, str]:
     variables.update(PYTHONUTF8="1", PYTHONDONTWRITEBYTECODE="1")
     if folder is not None:
         variables["TMPDIR"] = variables["TEMP"] = variables["TMP"] = folder
-    tool = setting(TOOL_SETTING)
+    tool = setting(TOOL_SETTING) or bundled_program()
     if tool:
         variables[TOOL_SETTING] = tool
+    if PACKAGE.is_dir():
+        paths = [variables["PYTHONPATH"]] if variables.get("PYTHONPATH") else []
+        variables["PYTHONPATH"] = os.pathsep.join([*paths, str(PACKAGE)])
     return variables
+
+
+def bundled_program() -> str:
+    """The program that the plugin's zip brought along for this system; empty where it has none."""
+    if not BUNDLED.is_file():
+        return ""
+    if not os.access(BUNDLED, os.X_OK):  # an installer of plugins keeps no permissions
+        BUNDLED.chmod(0o755)
+    return str(BUNDLED)
 
 
 _found: Dict[str, str] = {}
@@ -87,17 +123,21 @@ def find_python() -> str:
         candidates = [named] if named else _pythons()
         found = next((python for python in candidates if _has_package(python)), None)
         if found is None:
-            raise NotFound(f"{NO_PACKAGE} ({named} is named now.)" if named else NO_PACKAGE)
+            raise NotFound(f"{no_package()} {tr('({path} is named now.)', path=named)}" if named else no_package())
         _found[named] = found
     return _found[named]
 
 
 def _pythons() -> List[str]:
-    """Pythons where the package may be: QGIS's own, those on the path, and that of a command `gandovel`."""
-    places = [sys.executable, *(shutil.which(name) for name in ("python3", "python")), "/usr/bin/python3"]
+    """Pythons where the package may be: that of `~/gandovel`, that of a command `gandovel`, QGIS's own, and those on
+    the path."""
+    home = HOME_ENVIRONMENT.expanduser()
+    inside = (home / "bin/python3", home / "bin/python", home / "Scripts/python.exe")
+    places: List[Optional[str]] = [str(path) for path in inside if path.is_file()][:1]
     command = shutil.which("gandovel")
     if command:
         places.append(_interpreter_of(Path(command)))
+    places += [sys.executable, *(shutil.which(name) for name in ("python3", "python")), "/usr/bin/python3"]
     names = [place for place in dict.fromkeys(places) if place and Path(place).name.lower().startswith("python")]
     return [str(name) for name in names]
 

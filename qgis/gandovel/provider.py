@@ -9,6 +9,7 @@ from qgis.PyQt.QtGui import QIcon
 
 from .algorithms import ALGORITHMS
 from .program import PYTHON_SETTING, TOOL_SETTING
+from .words import tr
 
 ICON = Path(__file__).with_name("icon.svg")
 SETTINGS = (
@@ -30,7 +31,7 @@ class GandovelProvider(QgsProcessingProvider):
 
     def longName(self) -> str:
         """The name in the list of providers."""
-        return "Gandovel: exact check of parcel layers"
+        return tr("Gandovel: exact check of parcel layers")
 
     def icon(self) -> QIcon:
         """The icon in the toolbox."""
@@ -42,7 +43,7 @@ class GandovelProvider(QgsProcessingProvider):
 
         ProcessingConfig.settingIcons[self.name()] = self.icon()
         for name, text in SETTINGS:
-            ProcessingConfig.addSetting(Setting(self.name(), name, text, "", valuetype=Setting.FILE))
+            ProcessingConfig.addSetting(Setting(self.name(), name, tr(text), "", valuetype=Setting.FILE))
         ProcessingConfig.readSettings()
         self.refreshAlgorithms()
         return True

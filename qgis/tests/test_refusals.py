@@ -267,7 +267,7 @@ def test_no_package_and_no_program_are_one_sentence_each(qgis: Any, monkeypatch:
     town = {"INPUT": ROOT / "examples/town/parcels.shp", "UNIT": "cm", "FAULTS": M}
     monkeypatch.setenv("GANDOVEL_PYTHON", "/bin/false")
     text = refused("checkparcels", **town)
-    assert text.startswith("The Python package gandovel was not found: install it") and "Settings > Options" in text
+    assert text.startswith("The Python package gandovel was not found, or GeoPandas") and "Settings > Options" in text
     monkeypatch.undo()
     monkeypatch.setenv("GANDOVEL_TOOL", "/nowhere/parcel_tool")
     text = refused("checkparcels", **town)
@@ -330,7 +330,7 @@ def test_a_missing_corner_is_found_and_no_other(qgis: Any) -> None:
     below = {1: Polygon([(0, 0), (5, 0), (5, 9.9), (0, 10)]), 2: Polygon([(5, 0), (10, 0), (10, 10), (5, 9.9)])}
     shapes = {key: shape(polygon) for key, polygon in {**below, 3: box(0, 10, 10, 20)}.items()}
     found = missing_corners(shape(Polygon([(0, 10), (5, 9.9), (10, 10)])), shapes, 0.00075)
-    assert found is not None and found.feature == 3
+    assert found is not None and found.feature == 3 and found.agreed
     assert [(corner.x(), corner.y()) for corner in found.corners] == [(5, 9.9)]
     high = {key: polygon for key, polygon in shapes.items()}
     high[1] = QgsGeometry.fromWkt("PolygonZ((0 0 1, 5 0 2, 5 9.9 3, 0 10 4, 0 0 1))")
@@ -351,6 +351,10 @@ def test_the_zip_has_the_plugin_and_the_same_bytes_each_time(tmp_path: Path) -> 
     assert {"gandovel/__init__.py", "gandovel/package_side/answer.py", "gandovel/styles/faults.qml"} <= set(names)
     assert "hasProcessingProvider=yes" in about and "qgisMinimumVersion=3.22" in about
     files = [path for path in (ROOT / "qgis/gandovel").rglob("*") if path.is_file() and path.suffix != ".pyc"]
-    assert sorted(names) == sorted(str(path.relative_to(ROOT / "qgis")) for path in files)
+    own = [name for name in names if not name.startswith("gandovel/package/") and name != "gandovel/help.md"]
+    assert sorted(own) == sorted(str(path.relative_to(ROOT / "qgis")) for path in files)
+    assert "gandovel/package/gandovel/__init__.py" in names and "{home}" not in about
+    links = [line for line in about.splitlines() if line.startswith(("homepage=", "tracker=", "repository="))]
+    assert len(links) == 3 and all("=https://" in line for line in links)
     package = (ROOT / "python/pyproject.toml").read_text()
     assert f'version = "{metadata("version")}"' in package

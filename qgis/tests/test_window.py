@@ -1,6 +1,7 @@
 """The dock in the window of QGIS, under Xvfb: a clerk edits a street."""
 from __future__ import annotations
 
+import csv
 import json
 import os
 import shutil
@@ -16,6 +17,8 @@ from models import OUTPUTS
 
 HERE = Path(__file__).resolve().parent
 MOST_SECONDS_OF_MANY = 2.0
+MOST_SECONDS_OF_LIVE = 10.0 if os.environ.get("CI") else 5.0
+"""Of a machine that others use, too."""
 PROFILE = "profiles/default/QGIS/QGIS3.ini"
 SETTINGS = """[PythonPlugins]
 processing=true
@@ -53,7 +56,8 @@ def display() -> Iterator[str]:
 def seen(display: str, tmp_path_factory: pytest.TempPathFactory) -> Dict[str, Any]:
     """What `window.py` saw."""
     folder = tmp_path_factory.mktemp("window")
-    make_street(folder / "street.gpkg")
+    for name in ("street", "street_live"):
+        make_street(folder / f"{name}.gpkg")
     make_zip(folder / "gandovel.zip")
     settings = folder / PROFILE
     settings.parent.mkdir(parents=True)
@@ -62,7 +66,10 @@ def seen(display: str, tmp_path_factory: pytest.TempPathFactory) -> Dict[str, An
     (folder / "profiles/default/python/plugins").mkdir(parents=True)
     variables = environment(folder)
     variables.pop("QGIS_CUSTOM_CONFIG_PATH")
-    variables.update(DISPLAY=display, QT_QPA_PLATFORM="xcb", GANDOVEL_WINDOW=str(folder), LIBGL_ALWAYS_SOFTWARE="1")
+    variables.update(
+        DISPLAY=display, QT_QPA_PLATFORM="xcb", GANDOVEL_WINDOW=str(folder), GANDOVEL_WINDOW_CODE=str(HERE)
+    )
+    variables["LIBGL_ALWAYS_SOFTWARE"] = "1"
     words = ["qgis", "--nologo", "--noversioncheck", "--profiles-path", str(folder), "--code", str(HERE / "window.py")]
     begun = time.monotonic()
     ended = subprocess.run(words, env=variables, capture_output=True, text=True, timeout=900, check=False)
@@ -113,12 +120,36 @@ def test_a_click_zooms_to_the_fault(seen: Dict[str, Any]) -> None:
 
 def test_the_missing_corner_is_an_edit_that_undo_takes_back(seen: Dict[str, Any]) -> None:
     """The fault goes with it, nothing was saved, and it is back after undo."""
-    assert seen["inserted"].startswith("1 corner inserted")
+    assert seen["inserted"] == "street: 1 corner put into parcel 7. Check again to see what is left."
     assert seen["commands"] == 1
     assert seen["changed"] == [STREET_CORNER[0]]
     assert seen["mended"] == seen["first"][1:]
     assert seen["undone"] is True
-    assert seen["gone"] == "Parcels at this fault are no longer there: check again."
+    assert seen["gone"] == "Parcels of street at this fault are no longer there: check again."
+
+
+def test_a_verdict_is_of_one_layer_as_it_was_then(seen: Dict[str, Any]) -> None:
+    """It names the layer; with another layer chosen, or after an edit, it is grey and says why."""
+    said, grey = seen["other"]
+    assert grey and said.startswith("This is of street, not of the layer that is chosen above.")
+    said, grey = seen["back"]
+    assert not grey and said.startswith("street: The parcels do not tile the city: ")
+    said, grey, grey_list = seen["stale"]
+    assert grey and grey_list and said.startswith("This is of street") and "street: The parcels do not tile" in said
+    assert seen["after undo"].startswith("Out of date: street was changed after this verdict.")
+
+
+def test_insert_says_what_it_will_change_and_changes_the_layer_that_was_checked(seen: Dict[str, Any]) -> None:
+    """Though another layer is chosen: the layer, the parcel and the count are named before."""
+    assert seen["plan"] == "Insert puts 1 corner into parcel 7 of street."
+    assert seen["changed"] == ["7"] and seen["commands"] == 1
+
+
+def test_insert_changes_nothing_where_corners_disagree(seen: Dict[str, Any]) -> None:
+    """Two parcels agree on a corner, and that of the third is 41 cm off: two clicks change nothing."""
+    same, commands, said = seen["disagree"]
+    assert len(seen["three"]) == 1 and same and commands == 0
+    assert "nothing was changed in three" in said or "No corner is missing here: each parcel of three" in said
 
 
 def test_2000_faults_are_listed_and_marked_at_once(seen: Dict[str, Any]) -> None:
@@ -138,3 +169,46 @@ def test_a_check_can_be_cancelled(seen: Dict[str, Any]) -> None:
     """The dock says so; a layer that is removed then is forgotten."""
     assert seen["cancelled"] == "Cancelled."
     assert seen["forgotten"] is True
+
+
+def test_each_edit_is_checked_at_once(seen: Dict[str, Any]) -> None:
+    """The fault that was mended leaves the list, which is not grey; in a second, of which the arithmetic has little."""
+    work = seen["live work"]
+    said, listed, waited, seconds = work["live"]
+    assert "Checked while you edit: no gaps, 1 overlap, 1 open gap, no slivers." in said and not work["grey"]
+    assert listed == work["first"][1:]
+    assert waited < MOST_SECONDS_OF_LIVE and seconds < MOST_SECONDS_OF_LIVE / 5
+
+
+def test_the_list_is_sorted_filtered_and_stays(seen: Dict[str, Any]) -> None:
+    """By kind, by area, with keys for the next and the one before; what is chosen stays chosen."""
+    found = seen["live work"]["list"]
+    assert found["overlaps"] == ["overlap"]
+    assert found["least first"] == sorted(found["least first"]) and len(found["least first"]) == 2
+    assert found["keys"] == [True, True] and found["stays"] is True
+
+
+def test_the_assistant_mends_an_overlap_in_one_step(seen: Dict[str, Any]) -> None:
+    """It says what changes, shows it in the map, and does it; undo knows one step."""
+    found = seen["live work"]["assistant"]
+    assert found["proposed"] == ["Parcel 9 keeps it", "Parcel 8 keeps it"]
+    assert found["effect"].startswith("Parcel 8: 454.500 m², then 450.000 m²")
+    assert found["preview"] == 1 and found["steps"] == 1 and found["left"] == ["open_gap"]
+
+
+def test_saving_is_held_while_there_are_new_faults(seen: Dict[str, Any]) -> None:
+    """On before, off with the fault, and on again once it is taken back."""
+    assert seen["live work"]["hold"] == [True, False, True]
+
+
+def test_an_exception_has_a_reason_and_is_not_new_again(seen: Dict[str, Any]) -> None:
+    """The register says so, in the list and as CSV; the program's verdict agrees with live checking."""
+    work = seen["live work"]
+    assert work["states"] == ["new"] * 3
+    assert "reason" in work["accepted"]["without"] and "register of faults" in work["accepted"]["with"]
+    assert work["whole states"] == ["accepted: a wall, by deed 17/3"] and len(work["whole"]) == 1
+    assert work["saved"] == ""
+    rows = {row["kind"]: row for row in csv.DictReader(work["accepted"]["csv"])}
+    states = {kind: (row["state"], row["reason"]) for kind, row in rows.items()}
+    assert states == {"gap": ("open", ""), "overlap": ("open", ""), "open_gap": ("accepted", "a wall, by deed 17/3")}
+    assert rows["gap"]["parcels"] == "2, 3, 7" and rows["open_gap"]["decided"].endswith("Z")

@@ -16,6 +16,7 @@ from typing import Any, Callable, Dict
 
 from qgis.core import (
     QgsApplication,
+    QgsFeature,
     QgsGeometry,
     QgsPalLayerSettings,
     QgsPointXY,
@@ -29,8 +30,11 @@ from qgis.PyQt.QtGui import QColor
 from qgis.PyQt.QtWidgets import QApplication
 from qgis.utils import iface, pluginMetadata, plugins
 
+sys.path.insert(0, str(Path(os.environ["GANDOVEL_WINDOW_CODE"])))
+from window_live import live_work  # noqa: E402
+
 FOLDER = Path(os.environ["GANDOVEL_WINDOW"])
-WAIT = 300.0
+WAIT = float(os.environ.get("GANDOVEL_WAIT", "300"))
 seen: Dict[str, Any] = {}
 
 
@@ -58,6 +62,12 @@ def picture(name: str) -> None:
     """A picture of the window."""
     drawn()
     iface.mainWindow().grab().save(str(FOLDER / f"{name}.png"))
+
+
+def with_assistant(name: str, dialog: Any) -> None:
+    """Pictures of the window, and of a dialog beside it."""
+    picture(f"street_{name}")
+    dialog.grab().save(str(FOLDER / f"{name}.png"))
 
 
 def rows(dock: Any) -> list[list[str]]:
@@ -116,16 +126,33 @@ def drive() -> None:
     seen["zoomed"] = iface.mapCanvas().extent().width() < before / 2
     picture("street_fault")
     shapes = shapes_in(layer)
+    beside_another_layer(dock, layer)
+    seen["plan"] = dock.plan.text()
     dock.corner_button.click()
-    seen["inserted"] = dock.said.text()
+    seen["inserted"] = dock.plan.text()
+    seen["stale"] = [dock.said.text(), "gray" in dock.said.styleSheet(), "gray" in dock.table.styleSheet()]
     seen["changed"] = sorted(number for number, shape in shapes_in(layer).items() if shape != shapes[number])
     seen["commands"] = layer.undoStack().count()
+    after_the_corner(dock, layer, shapes)
+    where_corners_disagree(dock)
+    seen["live work"] = live_work(dock, FOLDER, turn, checked, with_assistant)
+    dock.layers.setLayer(layer)
+    show_many(dock, layer)
+    cancel(dock)
+    QgsProject.instance().removeMapLayer(layer.id())
+    seen["forgotten"] = dock.checked is None
+
+
+def after_the_corner(dock: Any, layer: Any, shapes: Dict[str, str]) -> None:
+    """Checks again, takes the corner back, and spoils a plot."""
+    dock.layers.setLayer(layer)
     seen["mended"] = checked(dock)
     iface.messageBar().clearWidgets()
     picture("street_mended")
     seen["saved"] = QgsVectorLayer(str(FOLDER / "street.gpkg"), "again", "ogr").featureCount()
     layer.undoStack().undo()
     seen["undone"] = shapes_in(layer) == shapes
+    seen["after undo"] = dock.stale_reason()
     seen["gone"] = without_a_plot(dock, layer)
     spoil(layer)
     checked(dock)
@@ -136,10 +163,6 @@ def drive() -> None:
     layer.rollBack()
     if "GANDOVEL_PICTURES" in os.environ:
         picture_of_toolbox(layer)
-    show_many(dock, layer)
-    cancel(dock)
-    QgsProject.instance().removeMapLayer(layer.id())
-    seen["forgotten"] = dock.checked is None
 
 
 def shapes_in(layer: Any) -> Dict[str, str]:
@@ -148,13 +171,49 @@ def shapes_in(layer: Any) -> Dict[str, str]:
 
 
 def without_a_plot(dock: Any, layer: Any) -> str:
-    """What the dock says where a plot of the first fault was taken out behind the check; then it is back."""
+    """What the dock says where a plot of the first fault was taken out after the check; then it is back."""
     dock.table.selectRow(0)
     number = dock.faults[0].numbers[0]
     layer.deleteFeature(dock.owners[number][0])
     dock.corner_button.click()
+    said = str(dock.plan.text())
     layer.undoStack().undo()
-    return str(dock.said.text())
+    return said
+
+
+def beside_another_layer(dock: Any, layer: Any) -> None:
+    """Adds another layer and chooses it in the dock: what the dock says of its verdict then, and of the first again."""
+    other = QgsVectorLayer("Polygon?crs=EPSG:25832&field=parcel_no:string", "plans", "memory")
+    QgsProject.instance().addMapLayer(other)
+    dock.layers.setLayer(other)
+    seen["other"] = [dock.said.text(), "gray" in dock.said.styleSheet()]
+    dock.layers.setLayer(layer)
+    dock.numbers.setField("parcel_no")
+    seen["back"] = [dock.said.text(), "gray" in dock.said.styleSheet()]
+    dock.layers.setLayer(other)
+
+
+def where_corners_disagree(dock: Any) -> None:
+    """Two parcels agree on a corner, and that of the third is 41 cm off: two clicks of Insert."""
+    layer = QgsVectorLayer("Polygon?crs=EPSG:25832&field=parcel_no:string", "three", "memory")
+    wkts = ("0 0, 5 0, 5 10, 0 10, 0 0", "5 0, 10 0, 10 10, 5 10, 5 0", "0 10, 5 10.41, 10 10, 10 20, 0 20, 0 10")
+    features = []
+    for number, wkt in zip("123", wkts):
+        feature = QgsFeature(layer.fields())
+        feature.setAttributes([number])
+        feature.setGeometry(QgsGeometry.fromWkt(f"Polygon(({wkt}))"))
+        features.append(feature)
+    layer.dataProvider().addFeatures(features)
+    QgsProject.instance().addMapLayer(layer)
+    dock.layers.setLayer(layer)
+    layer.startEditing()
+    seen["three"] = checked(dock)
+    before = shapes_in(layer)
+    dock.table.selectRow(0)
+    for _ in range(2):
+        dock.corner_button.click()
+    seen["disagree"] = [shapes_in(layer) == before, layer.undoStack().count(), dock.plan.text()]
+    layer.rollBack()
 
 
 def show_many(dock: Any, layer: Any) -> None:

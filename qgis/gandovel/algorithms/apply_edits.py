@@ -10,16 +10,16 @@ from qgis.core import (
     QgsProcessingParameterNumber,
     QgsWkbTypes,
 )
-from qgis.PyQt.QtCore import QVariant
 
-from ..layers import add, fields_of, fill, layer_of, own_fields
+from ..layers import TEXT, WHOLE, add, fields_of, fill, layer_of, own_fields
+from ..words import tr
 from .base import Algorithm, Job, Parameters
 
 ANSWER_COLUMNS = (
-    ("line", QVariant.Int),
-    ("edit", QVariant.String),
-    ("made", QVariant.Int),
-    ("answer", QVariant.String),
+    ("line", WHOLE),
+    ("edit", TEXT),
+    ("made", WHOLE),
+    ("answer", TEXT),
 )
 
 
@@ -40,17 +40,21 @@ class ApplyEdits(Algorithm):
     def initAlgorithm(self, configuration: Optional[Parameters] = None) -> None:
         """Its parameters and outputs."""
         self.add_parcels()
-        self.addParameter(QgsProcessingParameterFile("EDITS", "Clerk's file of edits"))
+        self.addParameter(QgsProcessingParameterFile("EDITS", tr("Clerk's file of edits")))
         island = QgsProcessingParameterNumber(
-            "ISLAND", "Part of the city, from 1", QgsProcessingParameterNumber.Integer, 1, minValue=1
+            "ISLAND", tr("Part of the city, from 1"), QgsProcessingParameterNumber.Type.Integer, 1, minValue=1
         )
-        island.setHelp("Parts that do not touch have records of their own.")
+        island.setHelp(tr("Parts that do not touch have records of their own."))
         self.addParameter(island)
         self.add_city()
         self.addParameter(
-            QgsProcessingParameterFeatureSink("OUTPUT", "Edited parcels", QgsProcessing.TypeVectorPolygon)
+            QgsProcessingParameterFeatureSink(
+                "OUTPUT", tr("Edited parcels"), QgsProcessing.SourceType.TypeVectorPolygon
+            )
         )
-        self.addParameter(QgsProcessingParameterFeatureSink("ANSWERS", "Answers", QgsProcessing.TypeVector))
+        self.addParameter(
+            QgsProcessingParameterFeatureSink("ANSWERS", tr("Answers"), QgsProcessing.SourceType.TypeVector)
+        )
         self.add_results({"ACCEPTED_COUNT": "Number of edits made", "REFUSED_COUNT": "Number of edits refused"})
 
     def answered(self, job: Job) -> Parameters:
@@ -67,7 +71,7 @@ class ApplyEdits(Algorithm):
         results: Dict[str, Any] = {}
         found = layer_of(out, "parcels")
         fields = own_fields(found)
-        sink, results["OUTPUT"] = job.sink("OUTPUT", fields, QgsWkbTypes.MultiPolygon)
+        sink, results["OUTPUT"] = job.sink("OUTPUT", fields, QgsWkbTypes.Type.MultiPolygon)
         if sink is not None:
             fill(sink, fields, found)
         results["ANSWERS"] = _told(job, answers)
@@ -78,7 +82,7 @@ class ApplyEdits(Algorithm):
 def _told(job: Job, answers: List[Dict[str, Any]]) -> Any:
     """The table of the answers."""
     fields = fields_of(ANSWER_COLUMNS)
-    sink, name = job.sink("ANSWERS", fields, QgsWkbTypes.NoGeometry)
+    sink, name = job.sink("ANSWERS", fields, QgsWkbTypes.Type.NoGeometry)
     if sink is not None:
         for row in answers:
             add(sink, fields, row)

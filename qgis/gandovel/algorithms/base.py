@@ -22,9 +22,11 @@ from qgis.core import (
 from qgis.PyQt.QtGui import QIcon
 
 from .. import answers, selecting
-from ..answers import Answer, Refused
+from ..answers import NOT_TILING, Answer, Refused
+from ..helping import help_url
 from ..layers import STYLES, UNITS, LayerFault, Written, write_layer
 from ..program import Cancelled, NotFound
+from ..words import tr
 
 ICON = Path(__file__).parents[1] / "icon.svg"
 MOST_ERRORS = 20
@@ -79,11 +81,15 @@ class Algorithm(QgsProcessingAlgorithm):
 
     def displayName(self) -> str:
         """Its name in the toolbox."""
-        return self.TITLE
+        return tr(self.TITLE)
 
     def shortHelpString(self) -> str:
         """The help beside its parameters."""
-        return self.HELP
+        return tr(self.HELP.replace(EXACT, "")) + (tr(EXACT) if EXACT in self.HELP else "")
+
+    def helpUrl(self) -> str:
+        """Where its Help button leads."""
+        return help_url("the-algorithms")
 
     def tags(self) -> List[str]:
         """Words by which it is found."""
@@ -99,7 +105,7 @@ class Algorithm(QgsProcessingAlgorithm):
             with tempfile.TemporaryDirectory(prefix="gandovel-") as folder:
                 self.outputs = self.answered(Job(self, parameters, context, feedback, folder))
         except Cancelled:
-            feedback.pushInfo("Cancelled: the check has ended, and nothing was written.")
+            feedback.pushInfo(tr("Cancelled: the check has ended, and nothing was written."))
             self.outputs = {}
         except (NotFound, LayerFault) as fault:
             raise QgsProcessingException(str(fault)) from fault
@@ -120,47 +126,49 @@ class Algorithm(QgsProcessingAlgorithm):
 
     def add_parcels(self, required_number: bool = False) -> None:
         """The parameters INPUT and NUMBER_FIELD."""
-        self.addParameter(QgsProcessingParameterFeatureSource("INPUT", "Parcels", [QgsProcessing.TypeVectorPolygon]))
-        number = QgsProcessingParameterField(
-            "NUMBER_FIELD", "Field of the parcels' numbers", None, "INPUT", optional=not required_number
+        self.addParameter(
+            QgsProcessingParameterFeatureSource("INPUT", tr("Parcels"), [QgsProcessing.SourceType.TypeVectorPolygon])
         )
-        number.setHelp("No two parcels may have the same number. Without a field, rows are numbered from 1.")
+        number = QgsProcessingParameterField(
+            "NUMBER_FIELD", tr("Field of the parcels' numbers"), None, "INPUT", optional=not required_number
+        )
+        number.setHelp(tr("No two parcels may have the same number. Without a field, rows are numbered from 1."))
         self.addParameter(number)
 
     def add_city(self) -> None:
         """The parameters CITY, and MAX_MOVE and TOUCH among the advanced ones."""
         city = QgsProcessingParameterFeatureSource(
-            "CITY", "City's outline", [QgsProcessing.TypeVectorPolygon], optional=True
+            "CITY", tr("City's outline"), [QgsProcessing.SourceType.TypeVectorPolygon], optional=True
         )
-        city.setHelp("Without it the outline is made of the parcels, and a gap along it is an open gap.")
+        city.setHelp(tr("Without it the outline is made of the parcels, and a gap along it is an open gap."))
         self.addParameter(city)
         unit = QgsProcessingParameterEnum(
-            "UNIT", "Unit of layers without a projection", list(UNITS), optional=True, usesStaticStrings=True
+            "UNIT", tr("Unit of layers without a projection"), list(UNITS), optional=True, usesStaticStrings=True
         )
-        unit.setFlags(unit.flags() | QgsProcessingParameterDefinition.FlagAdvanced)
+        unit.setFlags(unit.flags() | QgsProcessingParameterDefinition.Flag.FlagAdvanced)
         self.addParameter(unit)
         self.add_distance(
-            "TOUCH", "A corner this near to a border touches it (mm)", "By default what the layer's grid needs."
+            "TOUCH", tr("A corner this near to a border touches it (mm)"), tr("By default what the layer's grid needs.")
         )
         narrow = "Narrower notches and channels that are open to the outside are open gaps. By default 1 m."
-        self.add_distance("NARROW", "Greatest width of an open gap (m)", narrow)
-        self.add_distance("MAX_MOVE", "Refuse to move a corner farther than (mm)", "By default 1 mm.")
+        self.add_distance("NARROW", tr("Greatest width of an open gap (m)"), tr(narrow))
+        self.add_distance("MAX_MOVE", tr("Refuse to move a corner farther than (mm)"), tr("By default 1 mm."))
 
     def add_distance(self, name: str, text: str, more: str) -> None:
         """An optional advanced number, not below 0."""
         distance = QgsProcessingParameterNumber(
-            name, text, QgsProcessingParameterNumber.Double, None, optional=True, minValue=0.0
+            name, text, QgsProcessingParameterNumber.Type.Double, None, optional=True, minValue=0.0
         )
-        distance.setFlags(distance.flags() | QgsProcessingParameterDefinition.FlagAdvanced)
+        distance.setFlags(distance.flags() | QgsProcessingParameterDefinition.Flag.FlagAdvanced)
         distance.setHelp(more)
         self.addParameter(distance)
 
     def add_results(self, numbers: Dict[str, str], texts: Optional[Dict[str, str]] = None) -> None:
         """Outputs that models use: numbers, and texts."""
         for name, text in numbers.items():
-            self.addOutput(QgsProcessingOutputNumber(name, text))
+            self.addOutput(QgsProcessingOutputNumber(name, tr(text)))
         for name, text in (texts or {}).items():
-            self.addOutput(QgsProcessingOutputString(name, text))
+            self.addOutput(QgsProcessingOutputString(name, tr(text)))
 
 
 class Job:
@@ -191,7 +199,7 @@ class Job:
             return None
         number = self.field(field) if field else None
         transform = self.context.transformContext()
-        self.feedback.setProgressText(f"Writing {name} ..")
+        self.feedback.setProgressText(tr("Writing {name} ..", name=name))
         unit = self.algorithm.parameterAsEnumString(self.parameters, "UNIT", self.context)
         cancelled = self.feedback.isCanceled
         written = write_layer(source, self.folder, name, number, transform, cancelled, attributes, unit)
@@ -216,7 +224,7 @@ class Job:
     def options(self) -> Dict[str, Any]:
         """The options of `prepare` that are given, by their names; layers are written."""
         found: Dict[str, Any] = {}
-        city = self.write("CITY", "city", attributes=False)
+        city = self.written.get("CITY") or self.write("CITY", "city", attributes=False)
         if city is not None:
             found["city"] = city.path
         for name, option in (("TOUCH", "touch"), ("NARROW", "narrow"), ("MAX_MOVE", "max_move")):
@@ -258,12 +266,28 @@ class Job:
             answer: Answer = call()
             return answer
         except Refused as refused:
+            if refused.refusals[0].code == NOT_TILING and "INPUT" in self.written:
+                raise QgsProcessingException(self._needs_tiling(refused)) from refused
             self._select(refused)
             for refusal in refused.refusals[:MOST_ERRORS]:
                 self.feedback.reportError(str(refusal))
             more = len(refused.refusals) - 1
-            tail = f" (and {more} more: see the log)" if more else ""
+            tail = " " + tr("(and {count} more: see the log)", count=more) if more else ""
             raise QgsProcessingException(f"{refused.refusals[0]}{tail}") from refused
+
+    def _needs_tiling(self, refused: Refused) -> str:
+        """What is said where parcels have to tile and do not: the verdict of Check parcels, and the largest fault."""
+        needs = tr(
+            "{title} needs parcels that tile: mend the faults that Check parcels lists.",
+            title=self.algorithm.displayName(),
+        )
+        parcels, path = self.written["INPUT"], str(Path(self.folder) / "faults.gpkg")
+        options: Dict[str, Any] = {"number": parcels.column, **self.options()}
+        try:
+            answer = answers.report(parcels.path, path, options, self.folder, self.watching)
+        except Refused:
+            return f"{refused.refusals[0]} {needs}"
+        return " ".join([answers.verdict_of(answer), *answers.largest_of(answer), needs])
 
     def _select(self, refused: Refused) -> None:
         concerned: Dict[str, List[int]] = {}

@@ -13,6 +13,7 @@ from qgis.core import (
 
 from ..answers import Answer, counts_of
 from ..faults import fault_fields, fill_faults
+from ..words import tr
 from .base import EXACT, Algorithm, Job, Parameters
 
 COUNTS = {
@@ -52,7 +53,9 @@ class CheckParcels(Algorithm):
         self.add_parcels()
         self.add_city()
         add_skip_invalid(self)
-        self.addParameter(QgsProcessingParameterFeatureSink("FAULTS", "Faults", QgsProcessing.TypeVectorPolygon))
+        self.addParameter(
+            QgsProcessingParameterFeatureSink("FAULTS", tr("Faults"), QgsProcessing.SourceType.TypeVectorPolygon)
+        )
         self.add_results(COUNTS, VERDICT)
 
     def answered(self, job: Job) -> Parameters:
@@ -62,9 +65,9 @@ class CheckParcels(Algorithm):
 
 def add_skip_invalid(algorithm: Algorithm) -> None:
     """The advanced parameter SKIP_INVALID."""
-    skip = QgsProcessingParameterBoolean("SKIP_INVALID", "Go on without invalid features", False)
-    skip.setFlags(skip.flags() | QgsProcessingParameterDefinition.FlagAdvanced)
-    skip.setHelp("They are told, and the verdict is of the others.")
+    skip = QgsProcessingParameterBoolean("SKIP_INVALID", tr("Go on without invalid features"), False)
+    skip.setFlags(skip.flags() | QgsProcessingParameterDefinition.Flag.FlagAdvanced)
+    skip.setHelp(tr("They are told, and the verdict is of the others."))
     algorithm.addParameter(skip)
 
 
@@ -77,7 +80,7 @@ def skipping(job: Job) -> Dict[str, Any]:
 def checked(job: Job, **more: Any) -> Results:
     """The outputs of a check: FAULTS, the counts and the verdict."""
     answer, path = job.report(**more)
-    sink, name = job.sink("FAULTS", fault_fields(), QgsWkbTypes.MultiPolygon)
+    sink, name = job.sink("FAULTS", fault_fields(), QgsWkbTypes.Type.MultiPolygon)
     if sink is not None:
         fill_faults(sink, path)
     return {"FAULTS": name, **results_of(answer)}

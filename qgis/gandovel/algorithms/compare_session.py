@@ -13,6 +13,7 @@ from qgis.core import (
 )
 
 from ..layers import fill, layer_of, own_fields
+from ..words import tr
 from .base import EXACT, Algorithm, Job, Parameters
 
 TIMEOUT = 30.0
@@ -37,23 +38,29 @@ class CompareSession(Algorithm):
     def initAlgorithm(self, configuration: Optional[Parameters] = None) -> None:
         """Its parameters and outputs."""
         self.add_parcels()
-        self.addParameter(QgsProcessingParameterString("DESK", "Desk: the path of its pipes, without .in or .out"))
+        self.addParameter(QgsProcessingParameterString("DESK", tr("Desk: the path of its pipes, without .in or .out")))
         rows = QgsProcessingParameterFile(
-            "ROWS", "Rows of the session's parcels (rows.csv of its folder)", optional=True, extension="csv"
+            "ROWS", tr("Rows of the session's parcels (rows.csv of its folder)"), optional=True, extension="csv"
         )
-        rows.setHelp("Without it, records are as Prepare makes them of this layer.")
+        rows.setHelp(tr("Without it, records are as Prepare makes them of this layer."))
         self.addParameter(rows)
         limit = QgsProcessingParameterNumber(
-            "TIMEOUT", "Longest wait for an answer (s)", QgsProcessingParameterNumber.Double, TIMEOUT, minValue=0.1
+            "TIMEOUT",
+            tr("Longest wait for an answer (s)"),
+            QgsProcessingParameterNumber.Type.Double,
+            TIMEOUT,
+            minValue=0.1,
         )
         self.addParameter(limit)
         island = QgsProcessingParameterNumber(
-            "ISLAND", "Part of the city, from 1", QgsProcessingParameterNumber.Integer, 1, minValue=1
+            "ISLAND", tr("Part of the city, from 1"), QgsProcessingParameterNumber.Type.Integer, 1, minValue=1
         )
         self.addParameter(island)
         self.add_city()
         self.addParameter(
-            QgsProcessingParameterFeatureSink("OUTPUT", "Compared parcels", QgsProcessing.TypeVectorPolygon)
+            QgsProcessingParameterFeatureSink(
+                "OUTPUT", tr("Compared parcels"), QgsProcessing.SourceType.TypeVectorPolygon
+            )
         )
         self.add_results(
             {
@@ -76,7 +83,7 @@ class CompareSession(Algorithm):
         answer = job.asked({**request, "options": job.options()})
         found = layer_of(out, "compared")
         fields = own_fields(found)
-        sink, name = job.sink("OUTPUT", fields, QgsWkbTypes.MultiPolygon)
+        sink, name = job.sink("OUTPUT", fields, QgsWkbTypes.Type.MultiPolygon)
         if sink is not None:
             fill(sink, fields, found)
         counts = {f"{state.upper()}_COUNT": count for state, count in answer["counts"].items()}

@@ -10,6 +10,7 @@ from qgis.core import (
     QgsProcessingParameterNumber,
 )
 
+from ..words import tr
 from .base import EXACT, Algorithm, Job, Parameters
 from .check_parcels import COUNTS, VERDICT, add_skip_invalid, checked, skipping
 
@@ -34,16 +35,18 @@ class Districts(Algorithm):
         add_skip_invalid(self)
         most = QgsProcessingParameterNumber(
             "PARCELS_A_DISTRICT",
-            "Most rings of a district",
-            QgsProcessingParameterNumber.Integer,
+            tr("Most rings of a district"),
+            QgsProcessingParameterNumber.Type.Integer,
             None,
             optional=True,
             minValue=1,
         )
-        most.setFlags(most.flags() | QgsProcessingParameterDefinition.FlagAdvanced)
-        most.setHelp("Where it is given, a smaller layer is cut into districts, too.")
+        most.setFlags(most.flags() | QgsProcessingParameterDefinition.Flag.FlagAdvanced)
+        most.setHelp(tr("Where it is given, a smaller layer is cut into districts, too."))
         self.addParameter(most)
-        self.addParameter(QgsProcessingParameterFeatureSink("FAULTS", "Faults", QgsProcessing.TypeVectorPolygon))
+        self.addParameter(
+            QgsProcessingParameterFeatureSink("FAULTS", tr("Faults"), QgsProcessing.SourceType.TypeVectorPolygon)
+        )
         self.add_results(COUNTS, VERDICT)
 
     def answered(self, job: Job) -> Parameters:

@@ -10,6 +10,7 @@ from qgis.core import (
 )
 
 from ..layers import fill, layer_of, own_fields
+from ..words import tr
 from .base import EXACT, Algorithm, Job, Parameters
 
 
@@ -28,9 +29,13 @@ class LocatePoints(Algorithm):
     def initAlgorithm(self, configuration: Optional[Parameters] = None) -> None:
         """Its parameters and outputs."""
         self.add_parcels()
-        self.addParameter(QgsProcessingParameterFeatureSource("POINTS", "Points", [QgsProcessing.TypeVectorPoint]))
+        self.addParameter(
+            QgsProcessingParameterFeatureSource("POINTS", tr("Points"), [QgsProcessing.SourceType.TypeVectorPoint])
+        )
         self.add_city()
-        self.addParameter(QgsProcessingParameterFeatureSink("OUTPUT", "Located points", QgsProcessing.TypeVectorPoint))
+        self.addParameter(
+            QgsProcessingParameterFeatureSink("OUTPUT", tr("Located points"), QgsProcessing.SourceType.TypeVectorPoint)
+        )
         self.add_results(
             {
                 "INSIDE_COUNT": "Number of points inside a parcel",

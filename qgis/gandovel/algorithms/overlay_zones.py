@@ -12,17 +12,17 @@ from qgis.core import (
     QgsUnitTypes,
     QgsWkbTypes,
 )
-from qgis.PyQt.QtCore import QVariant
 
 from ..faults import fault_fields, fill_faults
 from ..joined import Joined
-from ..layers import add, fields_of, fill, layer_of, own_fields
+from ..layers import TEXT, WHOLE, add, fields_of, fill, layer_of, own_fields
+from ..words import tr
 from .base import EXACT, Algorithm, Job, Parameters
 from .check_parcels import COUNTS, VERDICT, add_skip_invalid, results_of, skipping
 
 OUTPUTS = (
-    ("SPLIT", "Split parcels", "split", QgsProcessing.TypeVectorPolygon),
-    ("PARTS", "Parts of split parcels", "split_parts", QgsProcessing.TypeVectorPolygon),
+    ("SPLIT", "Split parcels", "split", QgsProcessing.SourceType.TypeVectorPolygon),
+    ("PARTS", "Parts of split parcels", "split_parts", QgsProcessing.SourceType.TypeVectorPolygon),
 )
 
 
@@ -46,34 +46,49 @@ class OverlayZones(Algorithm):
     def initAlgorithm(self, configuration: Optional[Parameters] = None) -> None:
         """Its parameters and outputs."""
         self.add_parcels()
-        self.addParameter(QgsProcessingParameterFeatureSource("OVERLAY", "Zones", [QgsProcessing.TypeVectorPolygon]))
-        names = QgsProcessingParameterField(
-            "OVERLAY_FIELD", "Field of the zones' names", None, "OVERLAY", optional=True
+        self.addParameter(
+            QgsProcessingParameterFeatureSource("OVERLAY", tr("Zones"), [QgsProcessing.SourceType.TypeVectorPolygon])
         )
-        names.setHelp("Several rows may have the same name. Without a field, rows are numbered from 1.")
+        names = QgsProcessingParameterField(
+            "OVERLAY_FIELD", tr("Field of the zones' names"), None, "OVERLAY", optional=True
+        )
+        names.setHelp(tr("Several rows may have the same name. Without a field, rows are numbered from 1."))
         self.addParameter(names)
         self.add_city()
         minimum = QgsProcessingParameterNumber(
             "MIN_AREA",
-            "Parts of less are marked as slivers (m²)",
-            QgsProcessingParameterNumber.Double,
+            tr("Parts of less are marked as slivers (m²)"),
+            QgsProcessingParameterNumber.Type.Double,
             1.0,
             minValue=0.0,
         )
         self.addParameter(minimum)
         add_skip_invalid(self)
+        self._add_outputs()
+
+    def _add_outputs(self) -> None:
+        """Its layers, its tables, and its counts."""
         for name, text, _, kind in OUTPUTS:
-            self.addParameter(QgsProcessingParameterFeatureSink(name, text, kind))
-        self.addParameter(QgsProcessingParameterFeatureSink("TABLE", "Joined table", QgsProcessing.TypeVector))
+            self.addParameter(QgsProcessingParameterFeatureSink(name, tr(text), kind))
+        self.addParameter(
+            QgsProcessingParameterFeatureSink("TABLE", tr("Joined table"), QgsProcessing.SourceType.TypeVector)
+        )
         pairs = QgsProcessingParameterFeatureSink(
-            "PAIRS", "Pairs of parcel and zone", QgsProcessing.TypeVector, optional=True, createByDefault=False
+            "PAIRS",
+            tr("Pairs of parcel and zone"),
+            QgsProcessing.SourceType.TypeVector,
+            optional=True,
+            createByDefault=False,
         )
         self.addParameter(pairs)
         faults = QgsProcessingParameterFeatureSink(
-            "FAULTS", "Faults", QgsProcessing.TypeVectorPolygon, optional=True, createByDefault=False
+            "FAULTS", tr("Faults"), QgsProcessing.SourceType.TypeVectorPolygon, optional=True, createByDefault=False
         )
         self.addParameter(faults)
-        more = {"SPLIT_COUNT": "Number of split parcels", "PAIR_COUNT": "Number of parcels and zones that overlap"}
+        more = {
+            "SPLIT_COUNT": tr("Number of split parcels"),
+            "PAIR_COUNT": tr("Number of parcels and zones that overlap"),
+        }
         self.add_results({**more, **COUNTS}, VERDICT)
 
     def answered(self, job: Job) -> Parameters:
@@ -86,7 +101,7 @@ class OverlayZones(Algorithm):
             results[name], counts[name] = _copied(job, name, path, layer)
         results["TABLE"] = self._table(job, path, answer["pairs"])
         results["PAIRS"] = _pairs(job, answer["pairs"])
-        sink, results["FAULTS"] = job.sink("FAULTS", fault_fields(), QgsWkbTypes.MultiPolygon)
+        sink, results["FAULTS"] = job.sink("FAULTS", fault_fields(), QgsWkbTypes.Type.MultiPolygon)
         if sink is not None:
             fill_faults(sink, path)
         return {**results, "SPLIT_COUNT": counts["SPLIT"], "PAIR_COUNT": len(answer["pairs"])}
@@ -94,9 +109,9 @@ class OverlayZones(Algorithm):
     def _table(self, job: Job, path: str, pairs: List[Dict[str, Any]]) -> Any:
         """The joined table."""
         parcels, zones, parts = (layer_of(path, name) for name in ("parcels", "zones", "split_parts"))
-        metre = QgsUnitTypes.fromUnitToUnitFactor(parcels.crs().mapUnits(), QgsUnitTypes.DistanceMeters)
+        metre = QgsUnitTypes.fromUnitToUnitFactor(parcels.crs().mapUnits(), QgsUnitTypes.DistanceUnit.DistanceMeters)
         joined = Joined(parcels, zones, parts, pairs, metre * metre)
-        sink, name = job.sink("TABLE", joined.fields(), QgsWkbTypes.NoGeometry)
+        sink, name = job.sink("TABLE", joined.fields(), QgsWkbTypes.Type.NoGeometry)
         if sink is not None:
             joined.fill(sink)
         return name
@@ -104,9 +119,9 @@ class OverlayZones(Algorithm):
 
 def _pairs(job: Job, pairs: List[Dict[str, Any]]) -> Any:
     """The table of pairs, where it is asked for."""
-    columns = ("number", QVariant.String), ("zone", QVariant.String), ("split", QVariant.Int)
-    fields = fields_of((*columns, ("area2_mm2", QVariant.String)))
-    sink, name = job.sink("PAIRS", fields, QgsWkbTypes.NoGeometry)
+    columns = ("number", TEXT), ("zone", TEXT), ("split", WHOLE)
+    fields = fields_of((*columns, ("area2_mm2", TEXT)))
+    sink, name = job.sink("PAIRS", fields, QgsWkbTypes.Type.NoGeometry)
     if sink is not None:
         for pair in pairs:
             add(sink, fields, {**pair, "split": int(pair["split"])})
@@ -117,5 +132,5 @@ def _copied(job: Job, output: str, path: str, layer: str) -> Any:
     """Puts a layer of a GeoPackage into an output; its name, and how many features it has."""
     found = layer_of(path, layer)
     fields = own_fields(found)
-    sink, name = job.sink(output, fields, QgsWkbTypes.MultiPolygon)
+    sink, name = job.sink(output, fields, QgsWkbTypes.Type.MultiPolygon)
     return name, fill(sink, fields, found) if sink is not None else found.featureCount()

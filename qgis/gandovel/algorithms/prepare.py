@@ -11,6 +11,7 @@ from qgis.core import (
 )
 
 from ..layers import fill, layer_of, own_fields
+from ..words import tr
 from .base import Algorithm, Job, Parameters
 
 
@@ -33,16 +34,20 @@ class Prepare(Algorithm):
         self.add_parcels()
         self.add_city()
         self.addParameter(
-            QgsProcessingParameterFeatureSink("OUTPUT", "Prepared parcels", QgsProcessing.TypeVectorPolygon)
+            QgsProcessingParameterFeatureSink(
+                "OUTPUT", tr("Prepared parcels"), QgsProcessing.SourceType.TypeVectorPolygon
+            )
         )
         self.addParameter(
-            QgsProcessingParameterFeatureSink("CHANGES", "Changed corners", QgsProcessing.TypeVectorPoint)
+            QgsProcessingParameterFeatureSink(
+                "CHANGES", tr("Changed corners"), QgsProcessing.SourceType.TypeVectorPoint
+            )
         )
         folder = QgsProcessingParameterFolderDestination(
-            "FOLDER", "Folder for the program", optional=True, createByDefault=False
+            "FOLDER", tr("Folder for the program"), optional=True, createByDefault=False
         )
         self.addParameter(folder)
-        numbers = {"CHANGE_COUNT": "Number of changed corners", "ISLAND_COUNT": "Number of parts of the city"}
+        numbers = {"CHANGE_COUNT": tr("Number of changed corners"), "ISLAND_COUNT": tr("Number of parts of the city")}
         self.add_results(numbers, {"SUMMARY": "What was done, in one line"})
 
     def answered(self, job: Job) -> Parameters:
@@ -57,8 +62,8 @@ class Prepare(Algorithm):
         if folder:
             results["FOLDER"] = folder
         for name, layer, kind in (
-            ("OUTPUT", "parcels", QgsWkbTypes.MultiPolygon),
-            ("CHANGES", "changes", QgsWkbTypes.Point),
+            ("OUTPUT", "parcels", QgsWkbTypes.Type.MultiPolygon),
+            ("CHANGES", "changes", QgsWkbTypes.Type.Point),
         ):
             found = layer_of(out, layer)
             fields = own_fields(found)
