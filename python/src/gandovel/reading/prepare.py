@@ -194,8 +194,7 @@ def _prepared(
 ) -> Prepared:
     work = _taken_apart(layers, *told)
     progress.step("putting neighbours' corners into borders")
-    reaches = work.reaches.of_sides(work.loops), work.reaches.of_points(work.loops, len(work.points))
-    work.put_in(np.unique(work.loops.corners), *reaches)
+    work.put_in(np.unique(work.loops.corners), work.reaches.of_sides, work.reaches.of_points)
     progress.step("finding the outline")
     parts, islands_of_zones, gaps = _outlines_and_zones(work, layers, frame, narrow)
     progress.step("moving corners to the grid")
@@ -210,7 +209,8 @@ def _prepared(
         "touch": work.reaches.touch,
         "touch_of_zones": work.reaches.touch_of("zones"),
         "noise": work.noise,
-        "grid_mm": work.reaches.steps[PARCELS],
+        "grid_mm": work.reaches.layers[PARCELS].grid,
+        "precision": work.reaches.layers[PARCELS].told(),
         **changes.told(),
     }
     prepared = Prepared(
@@ -326,9 +326,9 @@ def _taken_apart(layers: _Layers, grid: Optional[float], touch: Optional[float])
     if np.abs(corners).max() > FARTHEST:
         raise Refused("P9", "the layer lies more than 100,000 km from the origin", role="parcels")
     noise = noise_of(corners)
-    reaches = reaches_of(loops, layers.scale, noise, grid, touch)
     (xs, x_made_one), (ys, y_made_one) = (values_gathered(corners[:, axis], noise) for axis in (0, 1))
     points, loops.corners = points_of(np.column_stack([xs, ys]))
+    reaches = reaches_of(loops, points, layers.scale, noise, grid, touch)
     work = _Work(loops, points, reaches, layers.scale)
     distance = np.hypot(xs - corners[:, 0], ys - corners[:, 1])
     at = np.flatnonzero((x_made_one & (xs != corners[:, 0])) | (y_made_one & (ys != corners[:, 1])))
@@ -369,7 +369,7 @@ def _outlines_and_zones(
         of_parcels[loops.corners[:own]] = True
         others = np.flatnonzero(~of_parcels)
         beside = known[np.isin(known[:, 0], work.points[others, 0])]
-        work.put_in(others[~_among(work.points[others], beside)], noise / 2, noise / 2)
+        work.put_in(others[~_among(work.points[others], beside)], noise, noise)
     return parts, islands, gaps
 
 
