@@ -35,7 +35,8 @@ def _preparing(command: argparse.ArgumentParser) -> None:
     add("--number", metavar="COLUMN", default="parcel_no", help="the parcels' own numbers (parcel_no), or ROW")
     add("--zone", metavar="COLUMN", help="the zones' names (zone, else the column of --number, else ROW)")
     add("--city", metavar="LAYER", help="the city's outline; without it, what the parcels cover")
-    for name in ("", "zones-", "city-"):
+    add("--neighbours", metavar="LAYER", help="the cities beside it: what parcels cover of one is reported")
+    for name in ("", "zones-", "city-", "neighbours-"):
         add(f"--{name}layer", metavar="NAME", help="the layer, where its source has several")
     add("--frame", action="store_true", help="a frame as the city, with a parcel and a zone OUT; zones uncut")
     add("--unit", metavar="UNIT", help="m, mm, cm, dm, km, ft, us-ft, or metres: where the projection does not say it")
@@ -153,12 +154,14 @@ def _prepared(options: argparse.Namespace, progress: Progress) -> Prepared:
         layer=options.layer,
         zones_layer=options.zones_layer,
         city_layer=options.city_layer,
+        neighbours=options.neighbours,
+        neighbours_layer=options.neighbours_layer,
     )
 
 
 def _read(options: argparse.Namespace) -> List[Optional[str]]:
     """The layers that a command reads, as they were named."""
-    return [options.source, options.zones, options.city]
+    return [options.source, options.zones, options.city, options.neighbours]
 
 
 def _lost(prepared: Prepared) -> None:

@@ -12,7 +12,7 @@ from ..arrays import Array
 from ..reading.loops import CITY, Loops, loops_from
 from .grid import edges_left
 from .planar import Graph, Region, graph_of, regions_of
-from .rings import Corner, contains, point_inside
+from .rings import Corner
 
 
 Places = Dict[Corner, Tuple[float, float]]
@@ -23,7 +23,7 @@ Places = Dict[Corner, Tuple[float, float]]
 class Outlines:
     """The connected parts of an area in mm: their rings on the grid, counterclockwise, and polygons of the layer's points.
 
-    `left_out` are, for each part, the polygons that its holes leave out, without other parts that lie in them.
+    `left_out` are, for each part, what its holes leave out, with other parts that lie in them.
     """
 
     rings: List[Array]
@@ -61,7 +61,7 @@ def outlines(loops: Loops, points: Array, with_holes: bool = False) -> Outlines:
         places.update(_crossings(graph, region, sides))
     parts = [_polygon(region.outer, region.holes, places) for region in covered]
     rings = [np.array([[round(x), round(y)] for x, y in region.outer], dtype=np.int64) for region in covered]
-    return Outlines(rings, parts, [_left_out(region, covered, places) for region in covered])
+    return Outlines(rings, parts, [[_polygon(hole[::-1], (), places) for hole in region.holes] for region in covered])
 
 
 def _crossings(graph: Graph, region: Region, sides: Array) -> Places:
@@ -88,20 +88,3 @@ def _polygon(outer: Sequence[Corner], holes: Sequence[Sequence[Corner]], places:
     """A polygon of the points that lie at corners of the grid; of a crossing that is none, as it is."""
     loops = [[places.get(corner, (float(corner[0]), float(corner[1]))) for corner in loop] for loop in (outer, *holes)]
     return Polygon(loops[0], loops[1:])
-
-
-def _left_out(region: Region, every: Sequence[Region], places: Places) -> List[Polygon]:
-    """What each hole of a part leaves out: without the outermost of other parts in it."""
-    found = []
-    for hole in region.holes:
-        inner = [other for other in every if other is not region and _lies_in(other, hole)]
-        outermost = [
-            one for one in inner if not any(one is not other and _lies_in(one, other.outer) for other in inner)
-        ]
-        found.append(_polygon(hole[::-1], [one.outer for one in outermost], places))
-    return found
-
-
-def _lies_in(region: Region, ring: Sequence[Corner]) -> bool:
-    """Whether a region lies in a ring that bounds another one, or one of its holes."""
-    return contains(ring, point_inside(region.outer, region.holes))

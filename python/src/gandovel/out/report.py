@@ -23,6 +23,7 @@ from ..arrays import Array
 from ..errors import Refused
 from ..exact.noding import LEAST
 from ..exact.rings import Number
+from ..faults.neighbours import Neighbour, overlaps_with
 from ..faults.polygons import fault_area
 from ..large.cutting import boxes_of
 from ..large.shares import in_shares
@@ -143,6 +144,9 @@ class Report:
         count, unit = len(self.prepared.islands), self.prepared.unit
         texts = [f"{count} islands"] if count > 1 else []
         texts += [*self.prepared.skipped_told(), _told(self, "parcels")]
+        beside = self.overlaps.loc[self.overlaps["layer"] == "neighbours", "area2_mm2"]
+        if len(beside):
+            texts.append(f"{_count(len(beside), 'overlap')} with neighbouring cities ({_areas(beside, unit)})")
         if len(self.open_gaps):
             areas = _areas(self.open_gaps["area2_mm2"], unit)
             texts.append(f"{_count(len(self.open_gaps), 'gap')} open to the outside ({areas})")
@@ -272,6 +276,9 @@ def report(prepared: Prepared, min_area: float = 1.0, progress: Optional[Progres
                 rows = getattr(island, role)
                 found[role] = layer_faults(checked(prepared, Path(folder), island, role), island.city, rows)
                 _tell(prepared, at, role, rows, found[role], faults, at_fault, touched)
+            for one in prepared.neighbours:
+                overlapping = _with_neighbour(one, island.parcels)
+                _tell(prepared, at, "parcels", island.parcels, overlapping, faults, at_fault, touched, [one.name])
             standing_out = sorted(found["parcels"].beyond)
             beyond.update(dict.fromkeys(numbers_at(prepared, island.parcels, standing_out, "parcels")))
             if island.zones is not None:
@@ -294,8 +301,12 @@ def _tell(
     faults: Dict[str, List[Dict[str, Any]]],
     at_fault: Dict[int, str],
     touched: Set[Tuple[int, int]],
+    neighbour: Sequence[str] = (),
 ) -> None:
-    """Adds the faults of a layer of island `at` to `faults`, and what they are to the parcels to `at_fault`."""
+    """Adds the faults of a layer of island `at` to `faults`, and what they are to the parcels to `at_fault`.
+
+    The name of a neighbouring city is given where they are what parcels cover of it.
+    """
     width = prepared.told["touch" if role == "parcels" else "touch_of_zones"]
     for fault, concerned in zip(found.faults, found.rows):
         kind = fault.kind
@@ -304,11 +315,11 @@ def _tell(
         faults["slivers" if is_sliver else LAYERS[kind]].append(
             {
                 "what": kind,
-                "layer": role,
+                "layer": "neighbours" if neighbour else role,
                 "island": at,
                 **_area_columns(fault.area2, prepared.unit),
                 "depth": fault.depth,
-                "numbers": ",".join(numbers_at(prepared, rows, concerned, role)),
+                "numbers": ",".join([*numbers_at(prepared, rows, concerned, role), *neighbour]),
                 "numbers_how": "exact",
                 "touched": len(corners & touched),
                 "geometry": prepared.polygon(fault.outer, fault.holes),
@@ -318,6 +329,13 @@ def _tell(
             for row in concerned:
                 if kind != "gap" or rows.source[row] not in at_fault:
                     at_fault[rows.source[row]] = kind
+
+
+def _with_neighbour(neighbour: Neighbour, rows: Rows) -> LayerFaults:
+    """What parcels cover of a neighbouring city."""
+    own = [at for at, row in enumerate(rows.source) if row != OUT_ROW]
+    found = overlaps_with(neighbour, [rows.rings[at] for at in own])
+    return LayerFaults([fault for fault, _ in found], [[own[at] for at in some] for _, some in found])
 
 
 def _area_columns(area2: Number, unit: Unit) -> Dict[str, Any]:

@@ -41,14 +41,16 @@ class LayerFaults:
 def write_island(folder: Path, island: Island) -> None:
     """An island's layers as the program reads them, in a folder."""
     write_rings(folder / "city.shp", [island.city])
-    if not is_large(island.parcels.rings):
+    if island.parcels.rings and not is_large(island.parcels.rings):
         write_rings(folder / "parcels.shp", island.parcels.rings)
-    if island.zones is not None and not is_large(island.zones.rings):
+    if island.zones is not None and island.zones.rings and not is_large(island.zones.rings):
         write_rings(folder / "zones.shp", island.zones.rings)
 
 
 def checked(prepared: Prepared, folder: Path, island: Island, role: str = "parcels") -> CheckAnswer:
     """`check --all` of an island's layer in a folder; a ring that is refused is raised by its number (H1)."""
+    if not getattr(island, role).rings:
+        return _without_rings(island.city, role)
     try:
         if is_large(getattr(island, role).rings):
             answer = check_island(island, role)
@@ -60,6 +62,14 @@ def checked(prepared: Prepared, folder: Path, island: Island, role: str = "parce
         record = min(answer.rings)
         raise named(prepared, island, Refused("H1", f"{record} {answer.rings[record]}", "parcels", record), role)
     return answer
+
+
+def _without_rings(city: Array, role: str) -> CheckAnswer:
+    """The answer on a part of the city that no ring lies in, of which the program is not asked: it is one gap."""
+    ends = np.roll(city, -1, axis=0)
+    edges = np.column_stack([city, ends, np.full(len(city), -1)]).astype(np.int64)
+    (ax, ay), (bx, by) = city[0].tolist(), ends[0].tolist()
+    return CheckAnswer(edges=edges, refused=Refused("H2", f"{ax} {ay} {bx} {by} net -1", role))
 
 
 def named(prepared: Prepared, island: Island, refused: Refused, role: str) -> Refused:
@@ -92,7 +102,7 @@ def layer_faults(answer: CheckAnswer, city: Array, rows: Rows) -> LayerFaults:
         return LayerFaults()
     faults = faults_of(answer.edges)
     gaps = [fault for fault in faults if fault.depth < 0]
-    owners = _owners(rows.rings, {edge for fault in gaps for edge in fault.edges})
+    owners = _owners(rows.rings, {edge for fault in gaps for edge in fault.edges}) if rows.rings else {}
     told = [sorted({row for edge in fault.edges for row in owners.get(edge, ())}) for fault in gaps]
     if len(gaps) == len(faults):
         return LayerFaults(gaps, told)
@@ -137,6 +147,8 @@ def overlay_island(folder: Path, island: Island, parcels: LayerFaults, zones: La
 
     With their areas where both layers tile.
     """
+    if not island.parcels.rings or not island.rows_of_zones().rings:
+        return Overlaid(np.zeros((0, 2), dtype=np.int64), [])
     if island.zones is not None and (is_large(island.parcels.rings) or is_large(island.zones.rings)):
         return overlay_of_island(island, parcels, zones)
     if not parcels.faults and not zones.faults:

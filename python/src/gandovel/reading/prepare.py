@@ -21,6 +21,7 @@ from ..exact.city import LEAST_OPEN, OpenGap, open_gaps
 from ..exact.holes import cut_holes
 from ..exact.noding import noise_of, points_of, put_in, values_gathered
 from ..exact.outlines import Outlines, outlines
+from ..faults.neighbours import neighbours_of
 from ..program.limits import FARTHEST, MOST_CORNERS, too_large
 from ..progress import Progress
 from ..shapes import bounds_of
@@ -144,8 +145,12 @@ def prepare(
     layer: Optional[str] = None,
     zones_layer: Optional[str] = None,
     city_layer: Optional[str] = None,
+    neighbours: Optional[Source] = None,
+    neighbours_layer: Optional[str] = None,
 ) -> Prepared:
     """Layers of a GIS in whole millimetres.
+
+    `neighbours` are the cities beside it (column `name`), of which parcels are to cover nothing.
 
     `parcels`, `zones` and `city` are GeoDataFrames, GeoSeries, or what GDAL opens (`layer`, `zones_layer`, `city_layer`
     name one of several layers), in one projection: polygons and multipolygons. `number` is the column of the parcels'
@@ -180,6 +185,10 @@ def prepare(
     ]
     options = {"number": number, "zone": zone, "frame": frame, "max_move": max_move, "touch": touch, "grid": grid}
     prepared.told["options"] = {**options, "unit": unit, "skip_invalid": skip_invalid, "narrow": narrow}
+    if neighbours is not None:
+        beside = frame_of(neighbours, "neighbours", neighbours_layer)
+        _test_beside(beside, "neighbours", layers.parcels, _box(layers.parcels), layers.unit)
+        prepared.neighbours = neighbours_of(beside, layers.scale)
     return prepared
 
 
@@ -449,7 +458,7 @@ def _islands(work: _Work, parts: List[Polygon], of_zones: Dict[int, int], frame:
     for island in islands:
         if len(island.city) > MOST_CORNERS:
             _frame_island(island)
-    return [island for island in islands if island.parcels.rings]
+    return islands  # a part without parcels is a gap
 
 
 def _add(rows: Rows, ring: Array, row: int, part: int) -> None:

@@ -18,6 +18,7 @@ from shapely.geometry import Polygon
 from ..arrays import Array
 from ..errors import Refused
 from ..exact.city import OpenGap
+from ..faults.neighbours import Neighbour
 from ..out import descriptions
 from ..out.gpkg import Table, read_layer_of, read_table_of, write_layers
 from ..program.layer_files import read_rings, write_rings
@@ -128,7 +129,7 @@ class Prepared:
     `parcels` and `zones` are the layers as they were given; `numbers` and `zone_names` their own numbers, row by row.
     `changes` are the corners that were changed, of which `told` has counts and distances; once loaded those alone that
     were made to touch. `open_gaps` are notches and channels of the city that the parcels make, `skipped` the rows that
-    were left out, `lost` what the package makes no use of, in sentences.
+    were left out, `lost` what the package makes no use of, in sentences. `neighbours` are the cities beside it.
     """
 
     parcels: gpd.GeoDataFrame
@@ -144,6 +145,7 @@ class Prepared:
     open_gaps: List[OpenGap] = field(default_factory=list)
     skipped: List[Skipped] = field(default_factory=list)
     lost: List[str] = field(default_factory=list)
+    neighbours: List[Neighbour] = field(default_factory=list)
 
     @property
     def scale(self) -> float:
@@ -275,6 +277,7 @@ class Prepared:
             "open_gaps": [gap.told() for gap in self.open_gaps],
             "skipped": [asdict(one) for one in self.skipped],
             "lost": self.lost,
+            "neighbours": [one.told() for one in self.neighbours],
         }
 
     @staticmethod
@@ -393,6 +396,7 @@ def load(work: Union[str, Path]) -> Prepared:
             [OpenGap.of(gap) for gap in facts["open_gaps"]],
             [Skipped(**one) for one in facts["skipped"]],
             facts["lost"],
+            [Neighbour.of(one) for one in facts.get("neighbours", [])],
         )
         folders = [work] if facts["islands"] == 1 else [work / f"island_{at + 1}" for at in range(facts["islands"])]
         prepared.islands = [_island(folder, facts["zones"]) for folder in folders]
