@@ -141,7 +141,7 @@ def overlay(
     told.update(touch=touch, grid=grid, unit=unit, skip_invalid=skip_invalid, narrow=narrow)
     prepared = _prepared(parcels, told)
     if prepared.zones is None:
-        raise Refused("P2", "there are no zones to overlay", "zones")
+        raise Refused("P2", "there are no zones to overlay: give them by --zones LAYER", "zones")
     found: Dict[Tuple[int, str], List[Member]] = defaultdict(list)
     with _islands(prepared) as folders:
         for at, (folder, island) in enumerate(folders):

@@ -254,7 +254,7 @@ def _tested(
     """The layers with their numbers and their unit; refuses bad geometries, mixed projections, extents apart."""
     for frame, role in ((parcels, "parcels"), (zones, "zones"), (city, "city")):
         if frame is not None and not len(frame):
-            raise Refused("P4", "the layer is empty", role=role)
+            raise Refused("P4", "the layer is empty: `ogrinfo -so FILE` says which layers a file has, and how many rows", role)
     names = numbers_of(parcels, number, "parcels", unique=True)
     lost = [text for frame in (parcels, zones, city) if frame is not None for text in frame.attrs.get("lost", ())]
     zone, zone_names = _zone_names(zones, zone, number)
@@ -279,7 +279,7 @@ def _skipped(frame: gpd.GeoDataFrame, labels: Sequence[str], role: str, skip_inv
     if not skip_invalid:
         raise_all(list(bad.values()), ADVICE if role != "city" else "mend it in the GIS")
     if len(bad) == len(frame):
-        raise Refused("P4", f"no row is left: all {len(bad)} are invalid", role=role)
+        raise Refused("P4", f"no row is left: all {len(bad)} are invalid: mend them in the GIS", role=role)
     return [Skipped.of(row, refused) for row, refused in bad.items()]
 
 
@@ -307,12 +307,14 @@ def _test_beside(frame: gpd.GeoDataFrame, role: str, parcels: gpd.GeoDataFrame, 
     unnamed = unit.how == "told" and (frame.crs is None or parcels.crs is None)
     if not unnamed and not same_projection(parcels.crs, frame.crs):
         names = f"{_name(frame.crs)}, {_name(parcels.crs)}"
-        raise Refused("P7", f"its projection is not that of the parcels: {names}", role=role)
+        advice = f"bring it to theirs: ogr2ogr -t_srs {_code(parcels.crs)} NEW.gpkg OLD.gpkg"
+        raise Refused("P7", f"its projection is not that of the parcels: {names}: {advice}", role=role)
     here, there = around, _box(frame)
     _test_far(there, unit, role)
     if (here[:2] > there[2:]).any() or (there[:2] > here[2:]).any():
         places = f"{place(*there[:2])}, they {place(*here[:2])}"
-        raise Refused("P11", f"it lies elsewhere than the parcels: {places}", role=role)
+        advice = "see that both are of one place, and that each has the projection that it names"
+        raise Refused("P11", f"it lies elsewhere than the parcels: {places}: {advice}", role=role)
 
 
 def _zone_names(zones: Optional[gpd.GeoDataFrame], zone: Optional[str], number: str) -> Tuple[str, List[str]]:
@@ -321,6 +323,12 @@ def _zone_names(zones: Optional[gpd.GeoDataFrame], zone: Optional[str], number: 
     found: str = next((name for name in ("zone", number) if name in zones.columns), ROW)
     column = zone if zone else found
     return column, numbers_of(zones, column, "zones", unique=False)
+
+
+def _code(crs: Any) -> str:
+    """A projection as `ogr2ogr -t_srs` takes it."""
+    code = None if crs is None else crs.to_epsg()
+    return f"EPSG:{code}" if code else "PROJECTION"
 
 
 def _name(crs: Any) -> str:

@@ -61,13 +61,21 @@ def read_layer(source: Union[str, "os.PathLike[str]"], role: str, layer: Optiona
     except fiona.errors.UnsupportedGeometryTypeError:
         return _straightened(path, layer, role)
     except Exception as fault:
-        raise Refused("P1", f"{source} can't be read: {' '.join(str(fault).split())}", role=role) from fault
+        text = f"{source} can't be read: {' '.join(str(fault).split()).rstrip('.')}"
+        raise Refused("P1", f"{text}{_advice_on(path)}", role=role) from fault
     if not isinstance(frame, gpd.GeoDataFrame):
         raise Refused("P1", f"{source} has no geometry", role=role)
     lost, truths = _beyond_fiona(path, name)
     result = plain(typed(frame, {**types, **truths}), role, lost)
     result.attrs["layer"] = name
     return result
+
+
+def _advice_on(path: str) -> str:
+    """What to do where a file can't be read: of a zip file, how GDAL opens it."""
+    if not path.lower().endswith(".zip") or path.startswith("/vsi"):
+        return ""
+    return f": of a zip file, name the layer within: /vsizip/{os.path.abspath(path)}/NAME (`unzip -l` lists the names)"
 
 
 def _address(text: str, layer: Optional[str]) -> Tuple[str, Optional[str]]:
