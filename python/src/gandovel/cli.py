@@ -23,9 +23,6 @@ if TYPE_CHECKING:
 ENDED_BY_USER = 130
 """The status of a command that its user interrupted."""
 
-STATUS = {"tiles": 0, "does not tile": 1, "open": 2}
-"""The status of `check` and `report` by their verdict."""
-
 
 def _preparing(command: argparse.ArgumentParser) -> None:
     """The options of a command that prepares layers."""
@@ -180,7 +177,7 @@ def _report(options: argparse.Namespace) -> int:
     progress = Progress(shown=True)
     try:
         prepared = _prepared(options, progress)
-        answer = report(prepared, getattr(options, "min_area", 1.0), progress)
+        answer = report(prepared, None, getattr(options, "min_area", 1.0), progress)
         if out is not None:
             progress.step("writing")
             answer.save(out)
@@ -196,17 +193,17 @@ def _report(options: argparse.Namespace) -> int:
             print(prepared.summary())
         print(answer.summary())
     print(progress.end(), file=sys.stderr)
-    return STATUS[answer.verdict]
+    return answer.verdict.status
 
 
 def _overlay(options: argparse.Namespace) -> int:
     from .out.report_formats import csv_of, json_of
-    from .program.commands import overlay
+    from .program.commands import pairs_of
     from .program.tool import program_version
     from .progress import Progress
 
     prepared = _prepared(options, Progress(shown=True))
-    frame = overlay(prepared)
+    frame, _ = pairs_of(prepared)
     names = ("number", "zone", "split", "area2_mm2", "area_m2", "area_how")
     rows = list(zip(*(frame[name].tolist() for name in names)))
     split = list(dict.fromkeys(number for number, _, is_split, *_ in rows if is_split))
@@ -265,7 +262,7 @@ def _mend(options: argparse.Namespace) -> int:
     names = ("kind", "number", "area2_mm2", "area_m2", "x", "y")
     rows = [[row[name] for name in names] for row in mended.closed]
     if options.json:
-        print(json_of({"closed": mended.closed, "left": mended.left, "verdict": mended.verdict}))
+        print(json_of({"closed": mended.closed, "left": mended.left, "verdict": str(mended.verdict)}))
     elif options.csv:
         print(csv_of(names, rows), end="")
     else:

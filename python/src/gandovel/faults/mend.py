@@ -9,7 +9,7 @@ import tempfile
 from collections import defaultdict
 from dataclasses import dataclass, field
 from pathlib import Path
-from typing import Any, Dict, List, Optional, Tuple, Union
+from typing import Any, Dict, List, Optional, Tuple, Union, Unpack
 
 import geopandas as gpd
 import numpy as np
@@ -21,11 +21,14 @@ from ..arrays import Array
 from ..errors import Refused
 from ..exact.city import LEAST_OPEN, OpenGap, open_gaps
 from ..out.gpkg import test_name, write_layers
+from ..out.own_frames import parcels_as_given
 from ..out.report import Report, report
 from ..program.untiled_overlays import area_polygons
 from ..program.verdicts import checked, layer_faults, write_island
 from ..reading.prepare import prepare
 from ..reading.prepared import OUT_ROW, Island, Prepared
+from ..reading.register import Options, Register, register_of
+from ..reading.sources import Source
 from .polygons import Fault
 
 LEAST_TOUCH = 0.72
@@ -68,7 +71,9 @@ class Mended:
         write_layers(path, [("parcels", self.frame), ("closed", closed)], notes=NOTES)
 
 
-def mend(prepared: Prepared, width: float = 1.0) -> Mended:
+def mend(
+    parcels: Register, width: float = 1.0, *, zones: Optional[Source] = None, **options: Unpack[Options]
+) -> Mended:
     """Closes the gaps and overlaps of the parcels that are nowhere wider than `width` (mm); nothing wider is touched.
 
     Each goes to the parcel with the longest border with it. Refused P17 where that would make another fault, P8 where
@@ -76,6 +81,7 @@ def mend(prepared: Prepared, width: float = 1.0) -> Mended:
     """
     if not 0 < width <= 1000:
         raise Refused("P8", f"a width of {width} mm is none: give millimetres, above 0 and up to 1000")
+    prepared = register_of(parcels, zones, **options)
     shapes: Dict[int, List[Any]] = defaultdict(list)
     closed: List[Dict[str, Any]] = []
     wide = 0
@@ -199,7 +205,7 @@ def _checked(
         text = f"closing the slivers would make another fault ({answer.summary()}): mend them in the GIS"
         raise Refused("P17", text, "parcels", number=faults["numbers"].iloc[0])
     shapes = {number: shape for number, shape in zip(numbers, _united(again))}
-    result = frame.copy()
+    result = parcels_as_given(prepared)
     result["geometry"] = [shapes.get(number) for number in prepared.numbers]
     return Mended(result, closed, left, answer.verdict, answer)
 

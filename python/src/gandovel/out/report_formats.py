@@ -34,7 +34,7 @@ def answer_of(report: Report, prepared: Prepared) -> Dict[str, Any]:
     told = prepared.told
     return {
         "program": program_version(),
-        "verdict": report.verdict,
+        "verdict": report.verdict.value,
         "parcels": len(prepared.numbers),
         "rings": sum(row != OUT_ROW for island in prepared.islands for row in island.parcels.source),
         "islands": len(prepared.islands),
@@ -57,7 +57,7 @@ def answer_of(report: Report, prepared: Prepared) -> Dict[str, Any]:
         "lost": prepared.lost,
         "split": [
             {"number": number, "zones": zones.split(",")}
-            for number, zones in zip(report.split["number"], report.split["zones"])
+            for number, zones in zip(report.split_table.columns["number"], report.split_table.columns["zones"])
         ],
         "pairs": [dict(zip(("number", "zone", "split", "area2_mm2"), pair)) for pair in report.pairs],
     }
@@ -73,7 +73,7 @@ def counts_of(report: Report, prepared: Prepared) -> Dict[str, int]:
         "touched": prepared.told["touched"],
         "moved": prepared.told["moved"],
         "skipped": len(prepared.skipped),
-        "split": len(report.split),
+        "split": len(report.split_table.columns),
     }
 
 
@@ -84,7 +84,10 @@ def faults_of(report: Report) -> List[Dict[str, Any]]:
     for row, shape in zip(frame[list(FAULT_KEYS)].to_dict("records"), frame.geometry):
         inside = shape.representative_point()
         numbers = [number for number in row["numbers"].split(",") if number]
-        found.append({**row, "numbers": numbers, "x": inside.x, "y": inside.y, "bounds": list(shape.bounds)})
+        area2 = str(row["area2_mm2"])
+        found.append(
+            {**row, "area2_mm2": area2, "numbers": numbers, "x": inside.x, "y": inside.y, "bounds": list(shape.bounds)}
+        )
     return found
 
 

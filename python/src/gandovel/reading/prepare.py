@@ -23,6 +23,7 @@ from ..exact.noding import noise_of, points_of, put_in, values_gathered
 from ..program.limits import FARTHEST, MOST_CORNERS, too_large
 from ..progress import Progress
 from ..shapes import bounds_of
+from .keys import key_of
 from .loops import (
     CITY,
     PARCELS,
@@ -170,7 +171,11 @@ def prepare(
         number = ROW
     names = str(number), None if zone is None else str(zone)
     layers = _tested(*frames, *names, unit, skip_invalid)
-    return _prepared(layers, frame, max_move, (grid, touch), narrow * 1000.0, progress)
+    prepared = _prepared(layers, frame, max_move, (grid, touch), narrow * 1000.0, progress)
+    prepared.given_keys["parcels"] = key_of(parcels, layers.parcels, layers.number)
+    if layers.zones is not None:
+        prepared.given_keys["zones"] = key_of(zones, layers.zones, layers.zone)
+    return prepared
 
 
 def _prepared(
