@@ -69,8 +69,8 @@ def said(answer: Any) -> Tuple[Any, ...]:
     def faults(of: gpd.GeoDataFrame) -> List[Any]:
         return sorted((it.layer, it.area2_mm2, it.depth, it.numbers) for it in of.itertuples())
 
-    parcels = sorted(zip(answer.parcels.number, answer.parcels.status))
-    pairs = sorted(zip(answer.split.number, answer.split.zones))
+    parcels = sorted(zip(answer.parcels.parcel_no, answer.parcels.status))
+    pairs = sorted(zip(answer.split.parcel_no, answer.split.zones))
     return faults(answer.gaps), faults(answer.overlaps), pairs, parcels, sorted(answer.beyond)
 
 

@@ -78,7 +78,7 @@ def test_a_square_millimetre_is_found_and_nothing_else(columns, rows, third, whi
     ]
     cells[cells.index(cell)] = [cell[0], cell[1], *middle, cell[2], cell[3]]
     found = gv.check(gv.prepare(layer(cells), touch=0))
-    assert list(zip(found.kind, found.area2_mm2)) == [("gap" if way < 0 else "overlap", "2")]
+    assert list(zip(found.kind, found.area2_mm2)) == [("gap" if way < 0 else "overlap", 2)]
 
 
 @FEW

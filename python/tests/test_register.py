@@ -203,7 +203,11 @@ def test_what_comes_back_has_each_attribute_once(whole):
 
 
 def test_edits_carry_the_numbers_of_those_they_came_from(whole):
-    frame = gv.apply(whole, [gv.Merge("1/1", "1/2"), gv.Merge("1/1", "1/3")])
+    edits = [gv.Merge("1/1", "1/2"), gv.Merge("1/1", "1/3")]
+    with pytest.raises(gv.RefusedEdit, match="^E2 1 1: edit 2, Merge"):
+        gv.apply(whole, edits)
+    with pytest.warns(UserWarning, match="1 edits were refused: E2"):
+        frame = gv.apply(whole, edits, refused="keep")
     assert [answer.split()[0] for answer in frame.attrs["answers"]] == ["ok", "refused"]
     edited = frame[frame.edited == 1]
     assert list(edited.came_from) == ["1/1,1/2"] and len(frame) == 201
@@ -238,10 +242,10 @@ def test_locate_and_area(whole):
     assert parcels.parcel_no.iloc[0] in found.numbers.iloc[2].split(",")
     exact = gv.area(whole)
     assert np.allclose(exact.area_m2, parcels.area, atol=0.1)
-    assert all(isinstance(value, int) for value in exact.area2_mm2)
+    assert exact.area2_mm2.dtype == "Int64"
 
 
 def test_a_pair_for_each_parcel_and_zone(whole):
     pairs = gv.overlay(whole)
-    assert set(pairs.number) == set(register()[0].parcel_no)
-    assert set(pairs[pairs.number == register()[0].parcel_no.iloc[-1]].zone) == {"R1", "R2", "C"}
+    assert set(pairs.parcel_no) == set(register()[0].parcel_no)
+    assert set(pairs[pairs.parcel_no == register()[0].parcel_no.iloc[-1]].zone) == {"R1", "R2", "C"}

@@ -98,7 +98,7 @@ def two(corner):
 
 def test_touch_0_compares_exactly_on_the_grid_too():
     found = gv.check(two(0.001), touch=0)
-    assert list(zip(found.kind, found.area2_mm2)) == [("gap", "10000")]
+    assert list(zip(found.kind, found.area2_mm2)) == [("gap", 10_000)]
     assert len(gv.check(two(0.001))) == 0 and len(gv.check(two(0.05), touch=51, max_move=1)) == 0
 
 
@@ -129,7 +129,7 @@ def test_a_grid_of_nothing_is_refused():
 def test_what_is_no_area_is_refused():
     for bad in (-1.0, float("nan")):
         with pytest.raises(gv.Refused, match="P8 a least area of .* is none"):
-            gv.report(gv.prepare(two(0.0)), bad)
+            gv.report(gv.prepare(two(0.0)), min_area=bad)
 
 
 def test_a_thin_parcel_is_no_rounding():

@@ -317,10 +317,10 @@ def test_open_gaps_are_told():
     shapes = [cell(0, 0, 10, 10), cell(10.05, 0, 20, 10)]
     report = gv.report(gv.prepare(gpd.GeoDataFrame({"parcel_no": ["a", "b"]}, geometry=shapes, crs=25832)))
     assert report.verdict == "open" and report.summary().startswith("2 islands; no gaps, no overlaps; 1 gap open to")
-    assert list(zip(report.open_gaps.area2_mm2, report.open_gaps.numbers)) == [("1000000", "a,b")]
+    assert list(zip(report.open_gaps.area2_mm2, report.open_gaps.numbers)) == [(1_000_000, "a,b")]
     notched = cell(0, 0, 20, 10).difference(cell(-1, 5, 6, 5.05))
     frame = gpd.GeoDataFrame({"parcel_no": ["a"]}, geometry=[notched], crs=25832)
-    assert list(gv.report(gv.prepare(frame)).open_gaps.area2_mm2) == ["600000"]
+    assert list(gv.report(gv.prepare(frame)).open_gaps.area2_mm2) == [600_000]
     assert len(gv.check(frame, narrow=0.01)) == 0
     whole = gpd.GeoDataFrame(geometry=[cell(0, 0, 20, 10)], crs=25832)
     assert list(gv.check(frame, city=whole).kind) == ["gap"]

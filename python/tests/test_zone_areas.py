@@ -37,7 +37,8 @@ def areas_of(parts):
     """Twice the area of each part in mm2, by parcel and zone; each is proved."""
     assert set(parts.area_how) <= {"proved"}
     assert parts.area_m2.tolist() == [int(area2) / 2e6 for area2 in parts.area2_mm2]
-    return {(number, zone): int(area2) for number, zone, area2 in zip(parts.number, parts.zone, parts.area2_mm2)}
+    keys = zip(parts.iloc[:, 0].astype(str), parts.iloc[:, 1].astype(str))  # the own columns, whatever their names
+    return {pair: int(area2) for pair, area2 in zip(keys, parts.area2_mm2)}
 
 
 def sums_of(areas):
@@ -169,13 +170,13 @@ def test_parcels_and_zones_of_several_islands():
 def test_an_island_that_does_not_tile_is_measured_alone():
     prepared = two_islands(gap=0.5)
     assert len(prepared.islands) == 2
-    parts = gv.report(prepared).parts.set_index(["number", "zone"])
+    parts = gv.report(prepared).parts.set_index(["parcel_no", "zone"])
     assert parts.area_how.to_dict() == {
         (number, zone): "proved" if number == "2" else "measured" for number in "123" for zone in "WE"
     }
     assert parts.area2_mm2.notna().tolist() == (parts.area_how == "proved").tolist()
     assert np.allclose(parts.area_m2, parts.area, atol=1e-6)
-    assert np.allclose(parts.groupby("number")["share"].sum(), 1)
+    assert np.allclose(parts.groupby("parcel_no")["share"].sum(), 1)
 
 
 def test_districts_have_the_areas_of_the_whole(monkeypatch, whole):
@@ -186,10 +187,10 @@ def test_districts_have_the_areas_of_the_whole(monkeypatch, whole):
     monkeypatch.setattr(frames, "A_SHARE", 2)
     with cut_by(districts):
         found, parts = gv.overlay(whole), gv.report(whole).parts
-    assert (found.number.tolist(), found.zone.tolist()) == (expected.number.tolist(), expected.zone.tolist())
+    assert (found.parcel_no.tolist(), found.zone.tolist()) == (expected.parcel_no.tolist(), expected.zone.tolist())
     assert set(found.area_how) == set(parts.area_how) == {"proved", "measured"}
-    for number, rows in found.groupby("number"):
-        known = expected[expected.number == number]
+    for number, rows in found.groupby("parcel_no"):
+        known = expected[expected.parcel_no == number]
         assert set(rows.area_how) == {"measured"} or rows.area2_mm2.tolist() == known.area2_mm2.tolist()
         assert np.allclose(rows.area_m2, known.area_m2, atol=1e-4)
 

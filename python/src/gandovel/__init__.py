@@ -39,8 +39,10 @@ if TYPE_CHECKING:
     from .live.session import Desk, Session
     from .out.exports import back
     from .out.report import Report, report
-    from .program.commands import apply, area, check, locate, overlay
-    from .program.edits import Insert, Merge, Move, Split, Straighten
+    from .out.verdict import Verdict
+    from .program.applied import apply
+    from .program.commands import area, check, locate, overlay
+    from .program.edits import Id, Insert, Merge, Move, Split, Straighten
     from .reading.prepare import prepare
     from .reading.prepared import Prepared, load
 
@@ -50,6 +52,7 @@ __all__ = [
     "CardsMissing",
     "Desk",
     "DeskTaken",
+    "Id",
     "Insert",
     "Journal",
     "JournalBroken",
@@ -81,6 +84,7 @@ __all__ = [
     "Straighten",
     "Tiling",
     "TimedOut",
+    "Verdict",
     "apply",
     "area",
     "back",
@@ -105,8 +109,10 @@ _NAMES = {
     "live.session": "Desk Session",
     "out.exports": "back",
     "out.report": "Report report",
-    "program.commands": "apply area check locate overlay",
-    "program.edits": "Insert Merge Move Split Straighten",
+    "out.verdict": "Verdict",
+    "program.applied": "apply",
+    "program.commands": "area check locate overlay",
+    "program.edits": "Id Insert Merge Move Split Straighten",
     "reading.prepare": "prepare",
     "reading.prepared": "Prepared load",
 }

@@ -1,120 +1,78 @@
 """`frame.gandovel` of a GeoDataFrame of parcels: `frame.gandovel.report(zones)`.
 
-It is there once `gandovel` is imported behind pandas or GeoPandas, or once anything of it was used.
+It is there once `gandovel` is imported after pandas or GeoPandas, or once anything of it was used.
 """
 from __future__ import annotations
 
-from typing import Optional, Union
+import os
+from typing import Any, Optional, Sequence, Union, Unpack
 
 import geopandas as gpd
 import pandas as pd
 
-from .out.report import Report, report
-from .reading.prepare import prepare
+from .faults import mend
+from .out import report
+from .program import applied, commands
+from .program.edits import Edit
 from .reading.prepared import Prepared
+from .reading.register import Options, register_of
 from .reading.sources import Source
 
 
 @pd.api.extensions.register_dataframe_accessor("gandovel")
 class Accessor:
-    """The package's functions on the parcels of a frame. Options are those of `gandovel.prepare`."""
+    """The package's functions on the parcels of a frame; they take the options of `gandovel.prepare`."""
 
     def __init__(self, frame: gpd.GeoDataFrame) -> None:
         """Takes a GeoDataFrame. AttributeError for a frame without geometry."""
         if not isinstance(frame, gpd.GeoDataFrame):
-            raise AttributeError("gandovel: a GeoDataFrame is wanted")
+            raise AttributeError("gandovel: a GeoDataFrame is wanted: geopandas.GeoDataFrame(frame, geometry=..)")
         self._frame = frame
 
-    def prepare(
-        self,
-        zones: Optional[Source] = None,
-        *,
-        number: str = "parcel_no",
-        zone: Optional[str] = None,
-        city: Optional[Source] = None,
-        frame: bool = False,
-        max_move: float = 1.0,
-        touch: Optional[float] = None,
-        grid: Optional[float] = None,
-        unit: Union[str, float, None] = None,
-        skip_invalid: bool = False,
-        narrow: float = 1.0,
-    ) -> Prepared:
+    def prepare(self, zones: Optional[Source] = None, **options: Unpack[Options]) -> Prepared:
         """The parcels in whole millimetres, as `gandovel.prepare`."""
-        return prepare(
-            self._frame,
-            zones,
-            number=number,
-            zone=zone,
-            city=city,
-            frame=frame,
-            max_move=max_move,
-            touch=touch,
-            grid=grid,
-            unit=unit,
-            skip_invalid=skip_invalid,
-            narrow=narrow,
-        )
+        return register_of(self._frame, zones, **options)
+
+    def check(self, zones: Optional[Source] = None, **options: Unpack[Options]) -> gpd.GeoDataFrame:
+        """The faults, the largest area first, as `gandovel.check`."""
+        return commands.check(self._frame, zones, **options)
 
     def report(
+        self, zones: Optional[Source] = None, min_area: float = 1.0, **options: Unpack[Options]
+    ) -> report.Report:
+        """Gaps, overlaps and split parcels, as `gandovel.report`. `min_area` (m2): parts of less are slivers."""
+        return report.report(self._frame, zones, min_area, **options)
+
+    def area(self, **options: Unpack[Options]) -> gpd.GeoDataFrame:
+        """The parcels with their areas, as `gandovel.area`."""
+        return commands.area(self._frame, **options)
+
+    def overlay(self, zones: Source, **options: Unpack[Options]) -> gpd.GeoDataFrame:
+        """The pairs of a parcel and a zone that overlap, as `gandovel.overlay`."""
+        return commands.overlay(self._frame, zones, **options)
+
+    def locate(self, points: Any, **options: Unpack[Options]) -> gpd.GeoDataFrame:
+        """In which parcels points lie, as `gandovel.locate`."""
+        return commands.locate(self._frame, points, **options)
+
+    def mend(self, width: float = 1.0, **options: Unpack[Options]) -> mend.Mended:
+        """The parcels without slivers up to `width` (mm), as `gandovel.mend`."""
+        return mend.mend(self._frame, width, **options)
+
+    def apply(
+        self, edits: Union[Edit, str, Sequence[Any]], island: Optional[int] = None, **options: Any
+    ) -> gpd.GeoDataFrame:
+        """The parcels after edits, as `gandovel.apply`."""
+        return applied.apply(self._frame, edits, island, **options)
+
+    def map(
         self,
+        path: Union[str, "os.PathLike[str]"],
         zones: Optional[Source] = None,
         min_area: float = 1.0,
-        *,
-        number: str = "parcel_no",
-        zone: Optional[str] = None,
-        city: Optional[Source] = None,
-        frame: bool = False,
-        max_move: float = 1.0,
-        touch: Optional[float] = None,
-        grid: Optional[float] = None,
-        unit: Union[str, float, None] = None,
-        skip_invalid: bool = False,
-        narrow: float = 1.0,
-    ) -> Report:
-        """Gaps, overlaps and split parcels, as `gandovel.report`. `min_area` (m2): parts of less are slivers."""
-        prepared = self.prepare(
-            zones,
-            number=number,
-            zone=zone,
-            city=city,
-            frame=frame,
-            max_move=max_move,
-            touch=touch,
-            grid=grid,
-            unit=unit,
-            skip_invalid=skip_invalid,
-            narrow=narrow,
-        )
-        return report(prepared, min_area)
-
-    def check(
-        self,
-        zones: Optional[Source] = None,
-        *,
-        number: str = "parcel_no",
-        zone: Optional[str] = None,
-        city: Optional[Source] = None,
-        frame: bool = False,
-        max_move: float = 1.0,
-        touch: Optional[float] = None,
-        grid: Optional[float] = None,
-        unit: Union[str, float, None] = None,
-        skip_invalid: bool = False,
-        narrow: float = 1.0,
-    ) -> gpd.GeoDataFrame:
-        """The faults, the largest area first, as `gandovel.check`."""
-        prepared = self.prepare(
-            zones,
-            number=number,
-            zone=zone,
-            city=city,
-            frame=frame,
-            max_move=max_move,
-            touch=touch,
-            grid=grid,
-            unit=unit,
-            skip_invalid=skip_invalid,
-            narrow=narrow,
-        )
-        return report(prepared).faults()
+        **options: Unpack[Options],
+    ) -> report.Report:
+        """Writes the report's page to look at (`Report.map`), and returns the report."""
+        answer = self.report(zones, min_area, **options)
+        answer.map(path)
+        return answer

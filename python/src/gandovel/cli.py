@@ -24,9 +24,6 @@ if TYPE_CHECKING:
 ENDED_BY_USER = 130
 """The status of a command that its user interrupted."""
 
-STATUS = {"tiles": 0, "does not tile": 1, "open": 2, "undecided": 2}
-"""The status of `check` and `report` by their verdict."""
-
 
 def _preparing(command: argparse.ArgumentParser) -> None:
     """The options of a command that prepares layers."""
@@ -207,7 +204,7 @@ def _report(options: argparse.Namespace) -> int:
     progress = Progress(shown=True)
     try:
         prepared = _prepared(options, progress)
-        answer = report(prepared, getattr(options, "min_area", 1.0), progress)
+        answer = report(prepared, None, getattr(options, "min_area", 1.0), progress)
         if out is not None:
             progress.step("writing")
             answer.save(out)
@@ -235,7 +232,7 @@ def _ended(options: argparse.Namespace, answer: Report, progress: Progress) -> i
         write_certificate(options.certificate, answer, answer.prepared)
     if answer.basis.advice():
         print(f"note: {answer.basis.advice()}", file=sys.stderr)
-    status = STATUS[answer.verdict]
+    status = answer.verdict.status
     if options.known:
         known, found = known_faults(options.known, answer.prepared.scale), identities(answer)
         fresh = sum(one not in known for one in found)
@@ -258,12 +255,12 @@ def _verify(options: argparse.Namespace) -> int:
 
 def _overlay(options: argparse.Namespace) -> int:
     from .out.report_formats import csv_of, json_of
-    from .program.commands import overlay
+    from .program.commands import pairs_of
     from .program.tool import program_version
     from .progress import Progress
 
     prepared = _prepared(options, Progress(shown=True))
-    frame = overlay(prepared)
+    frame, _ = pairs_of(prepared)
     names = ("number", "zone", "split", "area2_mm2", "area_m2", "area_how")
     rows = list(zip(*(frame[name].tolist() for name in names)))
     split = list(dict.fromkeys(number for number, _, is_split, *_ in rows if is_split))
@@ -320,7 +317,7 @@ def _mend(options: argparse.Namespace) -> int:
     mended.save(options.out)
     _lost(prepared)
     if options.json:
-        print(json_of({"closed": mended.closed, "left": mended.left, "verdict": mended.verdict}))
+        print(json_of({"closed": mended.closed, "left": mended.left, "verdict": str(mended.verdict)}))
     elif options.csv:
         print(csv_of(COLUMNS, [[row[name] for name in COLUMNS] for row in mended.closed]), end="")
     else:
@@ -329,7 +326,7 @@ def _mend(options: argparse.Namespace) -> int:
         for row in mended.left:
             print(f"{_place_of(row)}: left, since {row['why']}")
         print(mended.summary())
-    return STATUS[mended.verdict]
+    return mended.verdict.status
 
 
 def _place_of(row: Dict[str, Any]) -> str:

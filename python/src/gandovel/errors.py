@@ -102,6 +102,20 @@ class RefusedEdit(Refused):
     """
 
 
+class SeveralRefusedEdits(RefusedEdit):
+    """Several edits that are refused: `all` has each; code and text are the first one's."""
+
+    def __init__(self, problems: "Sequence[RefusedEdit]") -> None:
+        first, rest = problems[0], len(problems) - 1
+        super().__init__(first.code, f"{first.text}; and {rest} more edit{'' if rest == 1 else 's'}, which .all has")
+        self._problems = list(problems)
+
+    @property
+    def all(self) -> List[Refused]:
+        """Each single refusal."""
+        return list(self._problems)
+
+
 class SessionError(Refused):
     """What a session answers in place of what it was asked for; ``code`` stands behind ``error: `` in its answer."""
 

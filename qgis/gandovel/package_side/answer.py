@@ -88,7 +88,8 @@ def do_locate(request: Request, progress: Progress) -> Answer:
     singles = singles_of(points)
     progress.step("asking where the points lie")
     located = gv.locate(prepared, points.set_geometry(singles, crs=points.crs)).set_geometry(points.geometry)
-    write_layers(request["out"], [("points", located)])
+    own = set(located.columns) - set(points.columns) - set(LOCATED)  # the own column, which `numbers` has
+    write_layers(request["out"], [("points", located.drop(columns=own))])
     counts = Counter(located["where"])
     return {"counts": {where: counts.get(where, 0) for where in ("inside", "edge", "outside")}}
 
@@ -151,7 +152,7 @@ def do_apply(request: Request, progress: Progress) -> Answer:
         )
     edits = [(at, line) for at, line in enumerate(lines, 1) if is_edit(at, line)]
     progress.step("applying the edits")
-    frame = gv.apply(prepared, lines, island=request["island"])
+    frame = gv.apply(prepared, lines, island=request["island"], refused="keep")
     write_layers(request["out"], [("parcels", frame)])
     answers = zip(edits, frame.attrs["answers"])
     return {

@@ -9,7 +9,7 @@ import tempfile
 from collections import defaultdict
 from dataclasses import dataclass, field
 from pathlib import Path
-from typing import Any, Dict, List, Union
+from typing import Any, Dict, List, Optional, Union, Unpack
 
 import geopandas as gpd
 import pandas as pd
@@ -19,9 +19,12 @@ from ..arrays import Array
 from ..errors import Refused
 from ..out.gpkg import Table, test_name, write_layers
 from ..out.report import Report, report
+from ..out.verdict import Verdict
 from ..program.untiled_overlays import area_polygons
 from ..program.verdicts import checked, layer_faults, write_island
 from ..reading.prepared import Island, Prepared
+from ..reading.register import Options, Register, register_of
+from ..reading.sources import Source
 from .pieces import CHOICES, Piece, mended_rows
 from .polygons import Fault, fault_area
 
@@ -50,7 +53,7 @@ class Mended:
     left: List[Dict[str, Any]] = field(default_factory=list)
 
     @property
-    def verdict(self) -> str:
+    def verdict(self) -> Verdict:
         """The verdict on what comes of it: `tiles`, `does not tile`, or `open`."""
         return self.report.verdict
 
@@ -72,7 +75,14 @@ class Mended:
         write_layers(path, [("parcels", self.frame), ("changes", changes)], notes=NOTES)
 
 
-def mend(prepared: Prepared, width: float = 1.0, to: str = "border") -> Mended:
+def mend(
+    parcels: Register,
+    width: float = 1.0,
+    to: str = "border",
+    *,
+    zones: Optional[Source] = None,
+    **options: Unpack[Options],
+) -> Mended:
     """Closes the faults of the parcels that are nowhere wider than `width` (mm); nothing wider is touched.
 
     Each piece goes to the parcel that has the longest border with it (`to="border"`), is the largest beside it
@@ -83,6 +93,7 @@ def mend(prepared: Prepared, width: float = 1.0, to: str = "border") -> Mended:
         raise Refused("P8", f"a width of {width} mm is none: give millimetres, above 0 and up to 1000")
     if to not in CHOICES:
         raise Refused("P8", f"{to} says not to whom a piece goes: give one of {', '.join(CHOICES)}")
+    prepared = register_of(parcels, zones, **options)
     first_new = len(prepared.numbers)
     islands, found = [], []
     for island in prepared.islands:

@@ -19,6 +19,11 @@ from ..program.untiled_overlays import area_polygons
 from ..reading.prepared import OUT_ROW, Island, Prepared, load
 from . import descriptions
 from .gpkg import write_layers
+from .own_frames import parcels_as_given
+
+
+Row = Tuple[int, List[int], List[str], int]
+"""A parcel that comes back: the row of the layer whose attributes it has, its rings, came_from, edited."""
 
 
 def back_from_files(export: Union[str, Path], rows: Union[str, Path], out: Union[str, Path]) -> gpd.GeoDataFrame:
@@ -40,13 +45,40 @@ def back(prepared: Prepared, rings: Sequence[Array], at: int = 0) -> gpd.GeoData
     """The rings (k, 2) int64 mm of an island, number `at` from 0, after edits, as parcels in the layer's projection.
 
     Rows that are as they were make up their parcel again, holes and parts and all. Each other row is a parcel of its
-    own (`edited` 1), with the attributes of the parcel that it overlaps most (measured); `came_from` has the numbers of
+    own (`edited` 1), with the attributes of the parcel that it overlaps most (measured) and its index label; `came_from` has the numbers of
     all parcels that it overlaps, by the program. Each attribute stands once.
     """
+    return _frame(prepared, rings, _sorted(prepared, *_rows(prepared, rings, at)))
+
+
+def back_all(prepared: Prepared, rings: Dict[int, Sequence[Array]]) -> gpd.GeoDataFrame:
+    """As `back`, of all islands: `rings` has those of islands (from 0) that were edited, the others are as they were.
+
+    A parcel with parts in several islands is one row again.
+    """
+    joined: List[Array] = []
+    rows: List[Row] = []
+    whole: Dict[int, List[int]] = defaultdict(list)
+    for at, island in enumerate(prepared.islands):
+        begin, edited, same = len(joined), rings.get(at), {}
+        joined += island.parcels.rings if edited is None else edited
+        if edited is not None:
+            made, same = _rows(prepared, edited, at)
+            rows += [(main, [new + begin for new in news], came_from, 1) for main, news, came_from, _ in made]
+        else:
+            for record, row in enumerate(island.parcels.source):
+                same.setdefault(row, []).append(record)
+        for row, news in same.items():
+            whole[row] += [new + begin for new in news]
+    return _frame(prepared, joined, _sorted(prepared, rows, whole))
+
+
+def _rows(prepared: Prepared, rings: Sequence[Array], at: int) -> Tuple[List[Row], Dict[int, List[int]]]:
+    """The rows that edits made, and of each parcel the rings that are as they were."""
     island = prepared.islands[at]
     origins, same = _origins(island, rings)
     whole: Dict[int, List[int]] = defaultdict(list)
-    rows: List[Tuple[int, List[int], List[str], int]] = []
+    rows: List[Row] = []
     for new, olds in enumerate(origins):
         sources = list(dict.fromkeys(island.parcels.source[old] for old in olds))
         if same[new]:
@@ -54,9 +86,12 @@ def back(prepared: Prepared, rings: Sequence[Array], at: int = 0) -> gpd.GeoData
         elif sources != [OUT_ROW]:
             main = _most(island, rings[new], olds)
             rows.append((main, [new], [prepared.number_of(it) for it in sources if it != OUT_ROW], 1))
-    rows += [(source, news, [prepared.number_of(source)], 0) for source, news in whole.items() if source != OUT_ROW]
-    rows.sort(key=lambda row: (row[0], row[1]))
-    return _frame(prepared, rings, rows)
+    return rows, whole
+
+
+def _sorted(prepared: Prepared, rows: List[Row], whole: Dict[int, List[int]]) -> List[Row]:
+    same: List[Row] = [(it, news, [prepared.number_of(it)], 0) for it, news in whole.items() if it != OUT_ROW]
+    return sorted([*rows, *same], key=lambda row: (row[0], row[1]))
 
 
 def _origins(island: Island, rings: Sequence[Array]) -> Tuple[List[List[int]], List[bool]]:
@@ -85,13 +120,11 @@ def _most(island: Island, ring: Array, olds: List[int]) -> int:
     return max(area, key=lambda row: area[row])
 
 
-def _frame(
-    prepared: Prepared, rings: Sequence[Array], rows: List[Tuple[int, List[int], List[str], int]]
-) -> gpd.GeoDataFrame:
+def _frame(prepared: Prepared, rings: Sequence[Array], rows: List[Row]) -> gpd.GeoDataFrame:
     shapes = [_united(prepared, [rings[new] for new in news]) for _, news, _, _ in rows]
     sources = [row[0] for row in rows]
-    attributes = pd.DataFrame(prepared.parcels.drop(columns=prepared.parcels.geometry.name))
-    attributes = attributes.take(sources).reset_index(drop=True)
+    parcels = parcels_as_given(prepared)
+    attributes = pd.DataFrame(parcels.drop(columns=parcels.geometry.name)).take(sources)
     for name, values in (("came_from", [",".join(row[2]) for row in rows]), ("edited", [row[3] for row in rows])):
         attributes[name] = values
     return gpd.GeoDataFrame(attributes, geometry=shapes, crs=prepared.crs)

@@ -11,7 +11,7 @@ from dataclasses import dataclass
 from fractions import Fraction
 from functools import cached_property
 from pathlib import Path
-from typing import Any, Dict, Iterable, List, Optional, Sequence, Set, Tuple, Union
+from typing import Any, Dict, Iterable, List, Optional, Sequence, Set, Tuple, Union, Unpack
 
 import geopandas as gpd
 import numpy as np
@@ -25,19 +25,25 @@ from ..exact.noding import LEAST
 from ..exact.rings import Number
 from ..faults.neighbours import Neighbour, overlaps_with
 from ..faults.polygons import fault_area
+from ..exact.whole_numbers import Exact, texts_of, whole_numbers
 from ..large.cutting import boxes_of
 from ..large.shares import in_shares
 from ..program.verdicts import LayerFaults, checked, layer_faults, numbers_at, overlay_island, write_island
 from ..program.zone_areas import SQUARE_METRE, Member, area_columns, common, shares_of, summed
 from ..progress import Progress
 from ..reading.prepared import OUT_ROW, TOUCHED, Prepared, Rows
+from ..reading.register import Options, Register, register_of
+from ..reading.sources import Source
 from ..reading.units import Unit
 from ..shapes import MULTIPOLYGON, PLAIN, PLAIN_HEAD, POLYGON, array_of, box_of, kind_of, multipolygon_wkb
 from ..shapes import plain_wkb, polygon_wkb, rings_of, shapes_of, wkb_of
 from . import descriptions
 from .basis import Basis
 from .gpkg import Table, test_name, write_layers
+from .notebook import html_of
+from .own_frames import own_frame
 from .styles import STYLES
+from .verdict import Verdict
 
 SHOWN = 8
 LAYERS = {"gap": "gaps", "overlap": "overlaps", "beyond": "beyond"}
@@ -50,9 +56,9 @@ CITIES = {
 """Where the city's outline is from, as the verdict says it."""
 
 
-@dataclass
+@dataclass(repr=False)
 class Report:
-    """What the program says of a register.
+    """What the program says of a register; printed it is its summary, and in a notebook with a small map.
 
     Frames in the register's projection, the largest area first. `gaps`, `overlaps` (layer, area2_mm2, area2_most_mm2, area_m2,
     area_how, area, unit, depth, numbers, numbers_how, touched) and `outside`, what parcels cover beyond the city: exact.
@@ -83,14 +89,14 @@ class Report:
     pairs: List[Tuple[str, str, bool, Optional[str]]]
 
     @property
-    def verdict(self) -> str:
+    def verdict(self) -> Verdict:
         """`tiles`, `does not tile`, `open`: it tiles the city that it makes, which has open gaps; or `undecided`: what
         are faults can't be told from the layer's noise (`basis.advice`)."""
         if self.prepared.told.get("precision", {}).get("how") == "undecided" and len(self.faults()):
-            return "undecided"
+            return Verdict.UNDECIDED
         if any(map(len, (self.gaps, self.overlaps, self.outside, self.slivers))):
-            return "does not tile"
-        return "open" if len(self.open_gaps) else "tiles"
+            return Verdict.DOES_NOT_TILE
+        return Verdict.OPEN if len(self.open_gaps) else Verdict.TILES
 
     @cached_property
     def basis(self) -> Basis:
@@ -99,18 +105,33 @@ class Report:
 
     @cached_property
     def split(self) -> gpd.GeoDataFrame:
-        """The parcels in two zones or more."""
-        return self.split_table.frame()
+        """The parcels in two zones or more, by their own numbers and index labels."""
+        return own_frame(self.prepared, self.split_table)
 
     @cached_property
     def parts(self) -> gpd.GeoDataFrame:
-        """The parts of these parcels in zones."""
-        return self.parts_table.frame()
+        """The parts of these parcels in zones, by the parcels' own numbers and index labels."""
+        return own_frame(self.prepared, self.parts_table)
 
     @cached_property
     def parcels(self) -> gpd.GeoDataFrame:
-        """The parcels with what is said of each."""
-        return self.parcels_table.frame()
+        """The parcels with what is said of each, by their own numbers and index labels."""
+        return own_frame(self.prepared, self.parcels_table)
+
+    def __repr__(self) -> str:
+        return f"<Report: {self.verdict}; {self.summary()}>"
+
+    def _repr_html_(self) -> str:
+        return html_of(self.prepared, f"{self.verdict}: {self.summary()}", self.faults())
+
+    def map(self, path: Union[str, Path]) -> None:
+        """Writes the page of it to look at: one HTML file (docs/map.md). Refused P14 where it can't be written."""
+        from .map import write_map
+
+        with tempfile.TemporaryDirectory() as folder:
+            report_file = Path(folder) / "report.gpkg"
+            self.save(report_file)
+            write_map(report_file, path)
 
     @property
     def changes(self) -> Optional[gpd.GeoDataFrame]:
@@ -136,6 +157,7 @@ class Report:
             return gpd.GeoDataFrame(columns=["kind", *FAULT_COLUMNS], geometry="geometry", crs=self.gaps.crs)
         both = pd.concat(frames, ignore_index=True)
         both = both.iloc[_largest_first(both["area2_mm2"])].reset_index(drop=True)
+        both["area2_mm2"] = whole_numbers(both["area2_mm2"].tolist())
         return gpd.GeoDataFrame(both, geometry="geometry", crs=self.gaps.crs)
 
     def summary(self) -> str:
@@ -172,16 +194,16 @@ class Report:
         test_name(path)
         layers: List[Tuple[str, Union[gpd.GeoDataFrame, Table]]] = [
             ("parcels", self.parcels_table),
-            ("gaps", self.gaps),
-            ("overlaps", self.overlaps),
-            ("beyond", self.outside),
+            ("gaps", _as_texts(self.gaps)),
+            ("overlaps", _as_texts(self.overlaps)),
+            ("beyond", _as_texts(self.outside)),
             ("split", self.split_table),
             ("split_parts", self.parts_table),
         ]
         if self.zones is not None:
             layers.insert(1, ("zones", self.zones))
-        for name in ("open_gaps", "slivers", "touched", "skipped"):
-            layers.append((name, getattr(self, name)))
+        layers += [("open_gaps", _as_texts(self.open_gaps)), ("slivers", _as_texts(self.slivers))]
+        layers += [("touched", self.touched), ("skipped", self.skipped)]
         if self._has_changes:
             layers.append(("changes", self.prepared.changes_table()))
         notes = {**descriptions.REPORT, **descriptions.CHANGES}
@@ -231,15 +253,20 @@ def _told(report: Report, layer: str) -> str:
     return ", ".join(texts)
 
 
-def _areas(doubled: Iterable[str], unit: Unit) -> str:
-    """The largest of doubled areas (mm2, as text), as they are printed."""
-    areas = sorted((Fraction(text) / 2 for text in doubled), reverse=True)
+def _as_texts(faults: gpd.GeoDataFrame) -> gpd.GeoDataFrame:
+    """Faults as a file has them: their areas in mm2 are texts, which have no end."""
+    return faults.assign(**{name: texts_of(faults[name].tolist()) for name in ("area2_mm2", "area2_most_mm2")})
+
+
+def _areas(doubled: Iterable[Exact], unit: Unit) -> str:
+    """The largest of doubled areas (mm2), as they are printed."""
+    areas = sorted((Fraction(area2) / 2 for area2 in doubled), reverse=True)
     return ", ".join(area_text(area, unit) for area in areas[:SHOWN]) + (", .." if len(areas) > SHOWN else "")
 
 
-def _largest_first(doubled: Iterable[str]) -> List[int]:
-    """The order of doubled areas (mm2, as text) in which the largest is first: exact."""
-    areas = [Fraction(text) for text in doubled]
+def _largest_first(doubled: Iterable[Exact]) -> List[int]:
+    """The order of doubled areas (mm2) in which the largest is first: exact."""
+    areas = [Fraction(area2) for area2 in doubled]
     return sorted(range(len(areas)), key=lambda at: -areas[at])
 
 
@@ -254,13 +281,43 @@ def area_text(area: Fraction, unit: Optional[Unit] = None) -> str:
     return f"{float(area) / unit.millimetres**2:.2f} {unit.symbol}2 = {text}"
 
 
-def report(prepared: Prepared, min_area: float = 1.0, progress: Optional[Progress] = None) -> Report:
-    """Asks the program of every island of a register. `min_area` (m2): parts of less are slivers.
+def report(
+    parcels: Register,
+    zones: Optional[Source] = None,
+    min_area: float = 1.0,
+    progress: Optional[Progress] = None,
+    **options: Unpack[Options],
+) -> Report:
+    """Asks the program of every island of a register.
 
-    Refused as the program refuses, by number; a layer that does not tile is no refusal, but what is told.
+    Parameters
+    ----------
+    parcels : Prepared, path, GeoDataFrame or GeoSeries
+        The register; with `zones` and the options of `prepare` where it is not prepared yet.
+    min_area : float
+        Square metres: parts of split parcels with less are slivers.
+
+    Returns
+    -------
+    Report
+        A layer that does not tile is no refusal, but what is said.
+
+    Raises
+    ------
+    Refused
+        As the program refuses, by number; P8 where `min_area` is none, P1 .. P14 as `prepare` does.
+
+    Examples
+    --------
+    >>> import geopandas, gandovel
+    >>> from shapely.geometry import box
+    >>> plots = geopandas.GeoDataFrame({"parcel_no": [7]}, geometry=[box(0, 0, 10, 10)], crs=25832)
+    >>> gandovel.report(plots)
+    <Report: tiles; no gaps, no overlaps; the city is what the parcels cover>
     """
     if not min_area >= 0:
         raise Refused("P8", f"a least area of {min_area} m2 is none: give square metres, 0 or more")
+    prepared = register_of(parcels, zones, **options)
     progress = progress or Progress()
     faults: Dict[str, List[Dict[str, Any]]] = {"gaps": [], "overlaps": [], "beyond": [], "slivers": []}
     pairs: Dict[Tuple[int, str], List[Member]] = defaultdict(list)
@@ -386,7 +443,14 @@ def _open_gaps(prepared: Prepared) -> gpd.GeoDataFrame:
                 "geometry": prepared.polygon(gap.outer, gap.holes),
             }
         )
-    return gpd.GeoDataFrame(rows, columns=FAULT_COLUMNS, geometry="geometry", crs=prepared.crs)
+    return _fault_frame(rows, FAULT_COLUMNS, prepared)
+
+
+def _fault_frame(rows: List[Dict[str, Any]], columns: List[str], prepared: Prepared) -> gpd.GeoDataFrame:
+    frame = gpd.GeoDataFrame(rows, columns=columns, geometry="geometry", crs=prepared.crs)
+    for name in ("area2_mm2", "area2_most_mm2"):
+        frame[name] = whole_numbers([int(row[name]) for row in rows])
+    return frame
 
 
 def _beside(shape: Polygon, origin: Array, rows: Rows, boxes: Array) -> List[int]:
@@ -422,7 +486,7 @@ def _put_together(
     for kind, rows in faults.items():
         ordered = [rows[at] for at in _largest_first(row["area2_mm2"] for row in rows)]
         columns = ["what", *FAULT_COLUMNS] if kind == "slivers" else FAULT_COLUMNS
-        frames[kind] = gpd.GeoDataFrame(ordered, columns=columns, geometry="geometry", crs=prepared.crs)
+        frames[kind] = _fault_frame(ordered, columns, prepared)
     at_fault.update((row, "split") for row in split_rows if row not in at_fault)
     at_fault.update((one.row, "skipped") for one in prepared.skipped if one.role == "parcels")
     return Report(

@@ -36,7 +36,7 @@ def answer_of(report: Report, prepared: Prepared) -> Dict[str, Any]:
     told = prepared.told
     return {
         "program": program_version(),
-        "verdict": report.verdict,
+        "verdict": report.verdict.value,
         "basis": report.basis.told(),
         "parcels": len(prepared.numbers),
         "rings": sum(row != OUT_ROW for island in prepared.islands for row in island.parcels.source),
@@ -60,7 +60,7 @@ def answer_of(report: Report, prepared: Prepared) -> Dict[str, Any]:
         "lost": prepared.lost,
         "split": [
             {"number": number, "zones": zones.split(",")}
-            for number, zones in zip(report.split["number"], report.split["zones"])
+            for number, zones in zip(report.split_table.columns["number"], report.split_table.columns["zones"])
         ],
         "pairs": [dict(zip(("number", "zone", "split", "area2_mm2"), pair)) for pair in report.pairs],
     }
@@ -77,7 +77,7 @@ def counts_of(report: Report, prepared: Prepared) -> Dict[str, int]:
         "touched": prepared.told["touched"],
         "moved": prepared.told["moved"],
         "skipped": len(prepared.skipped),
-        "split": len(report.split),
+        "split": len(report.split_table.columns),
     }
 
 
@@ -89,8 +89,17 @@ def faults_of(report: Report) -> List[Dict[str, Any]]:
     for identity, row, shape in zip(identities(report), rows, frame.geometry):
         inside = shape.representative_point()
         numbers = [number for number in row["numbers"].split(",") if number]
+        areas = {name: str(row[name]) for name in ("area2_mm2", "area2_most_mm2")}
         found.append(
-            {"id": identity, **row, "numbers": numbers, "x": inside.x, "y": inside.y, "bounds": list(shape.bounds)}
+            {
+                "id": identity,
+                **row,
+                **areas,
+                "numbers": numbers,
+                "x": inside.x,
+                "y": inside.y,
+                "bounds": list(shape.bounds),
+            }
         )
     return found
 

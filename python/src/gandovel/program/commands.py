@@ -1,46 +1,38 @@
-"""The program's commands on GeoDataFrames. Each takes a `Prepared`, or parcels with the options of `prepare`."""
+"""The program's commands on GeoDataFrames: each takes a register, or parcels with the options of `prepare`."""
 from __future__ import annotations
 
 import tempfile
 from collections import defaultdict
 from contextlib import contextmanager
 from pathlib import Path
-from typing import Any, Dict, Iterator, List, Optional, Sequence, Tuple, Union
+from typing import Any, Dict, Iterator, List, Optional, Sequence, Tuple, Unpack
 
 import geopandas as gpd
-import pandas as pd
+import numpy as np
 
 from ..arrays import Array
 from ..errors import Refused
+from ..exact.whole_numbers import whole_numbers
 from ..large import is_large
-from ..large.verdict import areas_of_island, locate_in_island, overlaid_island, test_editable
-from ..out.exports import back
+from ..large.verdict import areas_of_island, locate_in_island, overlaid_island
+from ..out.own_frames import free_name, parcels_as_given, with_own_keys
 from ..out.report import report
-from ..reading.options import test_no_option
-from ..reading.points import on_grid
-from ..reading.prepare import prepare
+from ..reading.keys import keys_at
+from ..reading.points import on_grid, points_of
 from ..reading.prepared import OUT_ROW, Island, Prepared
-from ..reading.sources import Source, frame_of
+from ..reading.register import Options, Register, register_of
+from ..reading.sources import Source
 from . import tool
-from .edits import lines_of
-from .layer_files import read_rings
-from .verdicts import named, numbers_at, tiling_overlaid, write_island
+from .verdicts import named, tiling_overlaid, write_island
 from .zone_areas import Member, told_areas
 
-Register = Union[Prepared, Source]
-"""A register that `prepare` made, or parcels that it takes."""
-
-
-def _prepared(parcels: Register, told: Dict[str, Any]) -> Prepared:
-    """A register with the options that are told. Refused P18 where it is prepared already, and they say another."""
-    if isinstance(parcels, Prepared):
-        test_no_option(parcels, told, "the register")
-        return parcels
-    return prepare(parcels, **told)
+Pair = Tuple[int, str]
+"""A row of the parcels, and a zone's name."""
 
 
 @contextmanager
-def _islands(prepared: Prepared) -> Iterator[List[Tuple[Path, Island]]]:
+def islands_on_disk(prepared: Prepared) -> Iterator[List[Tuple[Path, Island]]]:
+    """The islands, each with a folder that has its layers as the program reads them, while this holds."""
     with tempfile.TemporaryDirectory() as name:
         folders = []
         for at, island in enumerate(prepared.islands):
@@ -51,99 +43,120 @@ def _islands(prepared: Prepared) -> Iterator[List[Tuple[Path, Island]]]:
         yield folders
 
 
-def check(
-    parcels: Register,
-    *,
-    zones: Optional[Source] = None,
-    number: str = "parcel_no",
-    zone: Optional[str] = None,
-    city: Optional[Source] = None,
-    frame: bool = False,
-    max_move: float = 1.0,
-    touch: Optional[float] = None,
-    grid: Optional[float] = None,
-    unit: Union[str, float, None] = None,
-    skip_invalid: bool = False,
-    narrow: float = 1.0,
-) -> gpd.GeoDataFrame:
+def check(parcels: Register, zones: Optional[Source] = None, **options: Unpack[Options]) -> gpd.GeoDataFrame:
     """The faults of a register, and of its zones where it has some, the largest area first; no row where all tiles.
 
-    Columns: kind (`gap` | `overlap` | `open_gap` | `sliver`), layer, island, area2_mm2 (text: twice the area in mm2,
-    exact but for open gaps), area_m2, area_how, area and unit (in the layer's unit), depth (how often too much is
-    covered), numbers (of a gap those that border it, exact; of an overlap those that cover it, measured by GEOS),
-    numbers_how (`exact` | `measured`), touched (corners of it that were made to touch), geometry; `.attrs["basis"]`
-    says what it stands on. Refused H1, H3, F.., P... Options are those of `prepare`.
+    Parameters
+    ----------
+    parcels : Prepared, path, GeoDataFrame or GeoSeries
+        The register; with `zones` and the options of `prepare` where it is not prepared yet.
+
+    Returns
+    -------
+    GeoDataFrame
+        Columns: kind (`gap` | `overlap` | `beyond` | `open_gap` | `sliver`), layer, island, area2_mm2 and
+        area2_most_mm2 (twice the area in mm2: a whole number, or the two that it lies between), area_m2, area_how, area
+        and unit (in the layer's unit), depth (how often too much is covered), numbers (text: of a gap those that border
+        it, of an overlap those that cover it), numbers_how (`exact` | `measured`), touched (corners of it that were made
+        to touch), geometry. `.attrs["basis"]` says what the verdict stands on.
+
+    Raises
+    ------
+    Refused
+        H1, H3, F.., P...
+
+    Examples
+    --------
+    >>> import geopandas, gandovel
+    >>> from shapely.geometry import box
+    >>> plots = geopandas.GeoDataFrame(
+    ...     {"parcel_no": [7, 8]}, geometry=[box(0, 0, 10, 10), box(9, 0, 20, 10)], crs=25832
+    ... )
+    >>> gandovel.check(plots)[["kind", "area2_mm2", "numbers"]].values.tolist()
+    [['overlap', 20000000, '7,8']]
     """
-    told = {"zones": zones, "number": number, "zone": zone, "city": city, "frame": frame, "max_move": max_move}
-    told.update(touch=touch, grid=grid, unit=unit, skip_invalid=skip_invalid, narrow=narrow)
-    prepared = _prepared(parcels, told)
-    judged = report(prepared)
+    judged = report(register_of(parcels, zones, **options))
     found = judged.faults()
     found.attrs["basis"] = judged.basis
     return found
 
 
-def area(
-    parcels: Register,
-    *,
-    zones: Optional[Source] = None,
-    number: str = "parcel_no",
-    zone: Optional[str] = None,
-    city: Optional[Source] = None,
-    frame: bool = False,
-    max_move: float = 1.0,
-    touch: Optional[float] = None,
-    grid: Optional[float] = None,
-    unit: Union[str, float, None] = None,
-    skip_invalid: bool = False,
-    narrow: float = 1.0,
-) -> gpd.GeoDataFrame:
-    """The parcels with area2_mm2 (whole number: twice the area in mm2 on the grid, exact) and area_m2 (rounded)."""
-    told = {"zones": zones, "number": number, "zone": zone, "city": city, "frame": frame, "max_move": max_move}
-    told.update(touch=touch, grid=grid, unit=unit, skip_invalid=skip_invalid, narrow=narrow)
-    prepared = _prepared(parcels, told)
+def area(parcels: Register, zones: Optional[Source] = None, **options: Unpack[Options]) -> gpd.GeoDataFrame:
+    """The parcels as they were given, with their areas.
+
+    Returns
+    -------
+    GeoDataFrame
+        The parcels with their own index, and the columns area2_mm2 (whole number: twice the area in mm2 on the grid,
+        exact) and area_m2 (half of it in m2, rounded to a float), which replace columns of these names.
+
+    Raises
+    ------
+    Refused
+        F.., P...
+
+    Examples
+    --------
+    >>> import geopandas, gandovel
+    >>> from shapely.geometry import box
+    >>> plots = geopandas.GeoDataFrame({"parcel_no": [7]}, geometry=[box(0, 0, 10, 10)], crs=25832, index=["a"])
+    >>> gandovel.area(plots).area2_mm2
+    a    200000000
+    Name: area2_mm2, dtype: Int64
+    """
+    prepared = register_of(parcels, zones, **options)
     doubled: Dict[int, int] = defaultdict(int)
-    with _islands(prepared) as folders:
+    with islands_on_disk(prepared) as folders:
         for folder, island in folders:
             for record, value in areas_of_island(island, folder).items():
                 doubled[island.parcels.source[record - 1]] += value
-    values = [doubled[row] for row in range(len(prepared.numbers))]
-    return prepared.parcels.assign(
-        area2_mm2=pd.Series(values, dtype=object, index=prepared.parcels.index),
-        area_m2=[value / 2_000_000 for value in values],
+    gone = {one.row for one in prepared.skipped if one.role == "parcels"}
+    values = [None if row in gone else doubled[row] for row in range(len(prepared.numbers))]
+    frame = parcels_as_given(prepared)
+    return frame.assign(
+        area2_mm2=whole_numbers(values, frame.index),
+        area_m2=[np.nan if value is None else value / 2_000_000 for value in values],
     )
 
 
-def overlay(
-    parcels: Register,
-    zones: Optional[Source] = None,
-    *,
-    number: str = "parcel_no",
-    zone: Optional[str] = None,
-    city: Optional[Source] = None,
-    frame: bool = False,
-    max_move: float = 1.0,
-    touch: Optional[float] = None,
-    grid: Optional[float] = None,
-    unit: Union[str, float, None] = None,
-    skip_invalid: bool = False,
-    narrow: float = 1.0,
-) -> gpd.GeoDataFrame:
-    """The pairs of a parcel and a zone whose interiors have a common point, by number and then by zone.
+def overlay(parcels: Register, zones: Optional[Source] = None, **options: Unpack[Options]) -> gpd.GeoDataFrame:
+    """The pairs of a parcel and a zone whose interiors have a common point, in the order of the parcels.
 
-    Columns: number, zone, split (whether the parcel lies in two zones or more), area2_mm2 (text: twice the area that
-    both have in common in mm2), area_m2, area_how, geometry (the parcel's, as given). With area_how `proved` an
-    area2_mm2 is at most 1 away from the exact one, and those of a parcel sum to its own; else it is missing, and
-    area_m2 `measured`. Refused H2 where parcels or zones do not tile the city (`report` answers there, too), H1, H3,
-    F.., P...
+    Returns
+    -------
+    GeoDataFrame
+        One row for each pair, with the index label of its parcel. Columns: the parcels' own column of numbers and the
+        zones' own column of names, with their own types (`zone` where both have one name, or the zones none); split
+        (whether the parcel lies in two zones or more); area2_mm2 (whole number: twice the area that both have in common
+        in mm2), area_m2, area_how; geometry (the parcel's, as given). With area_how `proved` an area2_mm2 is at most 1
+        away from the exact one, and those of a parcel sum to its own; else it is missing, and area_m2 `measured`.
+
+    Raises
+    ------
+    Refused
+        H2 where parcels or zones do not tile the city (`report` answers there, too), H1, H3, F.., P...
+
+    Examples
+    --------
+    >>> import geopandas, gandovel
+    >>> from shapely.geometry import box
+    >>> plots = geopandas.GeoDataFrame({"parcel_no": [7]}, geometry=[box(0, 0, 10, 10)], crs=25832)
+    >>> zones = geopandas.GeoDataFrame({"zone": ["A"]}, geometry=[box(-1, -1, 11, 11)], crs=25832)
+    >>> gandovel.overlay(plots, zones)[["parcel_no", "zone", "split", "area2_mm2"]].values.tolist()
+    [[7, 'A', False, 200000000]]
     """
-    told = {"zones": zones, "number": number, "zone": zone, "city": city, "frame": frame, "max_move": max_move}
-    told.update(touch=touch, grid=grid, unit=unit, skip_invalid=skip_invalid, narrow=narrow)
-    prepared = _prepared(parcels, told)
+    prepared = register_of(parcels, zones, **options)
+    frame, rows = pairs_of(prepared)
+    positions = {name: row for row, name in reversed(list(enumerate(prepared.zone_names)))}
+    return with_own_keys(prepared, frame, rows, [positions.get(name, -1) for name in frame["zone"]])
+
+
+def pairs_of(prepared: Prepared) -> Tuple[gpd.GeoDataFrame, List[int]]:
+    """`overlay` with texts: number, zone, split, area2_mm2, area_m2, area_how, geometry; and the parcels' rows."""
     if prepared.zones is None:
-        raise Refused("P2", "there are no zones to overlay: give them by --zones LAYER", "zones")
-    found: Dict[Tuple[int, str], List[Member]] = defaultdict(list)
-    with _islands(prepared) as folders:
+        raise Refused("P2", "there are no zones to overlay: give them to `prepare`, or with the parcels", "zones")
+    found: Dict[Pair, List[Member]] = defaultdict(list)
+    with islands_on_disk(prepared) as folders:
         for at, (folder, island) in enumerate(folders):
             overlaid = _overlaid(prepared, folder, island)
             for (parcel, part), area2 in zip(overlaid.pairs.tolist(), overlaid.area2):
@@ -161,7 +174,7 @@ def overlay(
         **told_areas(prepared, [found[key] for key in rows]),
         "geometry": list(prepared.parcels.geometry.iloc[[row for row, _ in rows]]),
     }
-    return gpd.GeoDataFrame(table, geometry="geometry", crs=prepared.crs)
+    return gpd.GeoDataFrame(table, geometry="geometry", crs=prepared.crs), [row for row, _ in rows]
 
 
 def _overlaid(prepared: Prepared, folder: Path, island: Island) -> tool.Overlaid:
@@ -174,91 +187,71 @@ def _overlaid(prepared: Prepared, folder: Path, island: Island) -> tool.Overlaid
 
 
 def locate(
-    parcels: Register,
-    points: Source,
-    *,
-    zones: Optional[Source] = None,
-    number: str = "parcel_no",
-    zone: Optional[str] = None,
-    city: Optional[Source] = None,
-    frame: bool = False,
-    max_move: float = 1.0,
-    touch: Optional[float] = None,
-    grid: Optional[float] = None,
-    unit: Union[str, float, None] = None,
-    skip_invalid: bool = False,
-    narrow: float = 1.0,
+    parcels: Register, points: Any, *, zones: Optional[Source] = None, **options: Unpack[Options]
 ) -> gpd.GeoDataFrame:
-    """The points with `where` (`inside` | `edge` | `outside`), `numbers` (text, comma separated), `moved_mm`.
+    """In which parcels points lie.
 
-    `points` is a layer as `prepare` takes it, with a point in each row. A point is asked for at the whole millimetre
-    nearest to it, `moved_mm` away (`moved_how`: measured). Refused H2 where the parcels do not tile the city, P7 where
-    the points have another projection, P4, P5, P9 what is no point, all at once.
+    Parameters
+    ----------
+    points : (x, y), Point, a sequence of these, GeoSeries, GeoDataFrame or path
+        Points in the layer's unit. A frame in another projection is brought to that of the parcels, which is measured.
+
+    Returns
+    -------
+    GeoDataFrame
+        The points as they were given, with their own index, and the columns `where` (`inside` | `edge` | `outside`),
+        the parcels' own column (of the parcel that a point lies inside; missing on an edge and outside), `numbers`
+        (text: all, comma separated), `moved_mm` and `moved_how`: a point is asked for at the whole millimetre nearest
+        to it, `moved_mm` away (measured).
+
+    Raises
+    ------
+    Refused
+        H2 where the parcels do not tile the city; P4, P5, P9 what is no point, all at once; P7 where the points'
+        projection has no way to that of the parcels.
+
+    Examples
+    --------
+    >>> import geopandas, gandovel
+    >>> from shapely.geometry import box
+    >>> plots = geopandas.GeoDataFrame({"parcel_no": [7]}, geometry=[box(0, 0, 10, 10)], crs=25832)
+    >>> gandovel.locate(plots, (5, 5))[["where", "parcel_no"]].values.tolist()
+    [['inside', 7]]
     """
-    told = {"zones": zones, "number": number, "zone": zone, "city": city, "frame": frame, "max_move": max_move}
-    told.update(touch=touch, grid=grid, unit=unit, skip_invalid=skip_invalid, narrow=narrow)
-    prepared = _prepared(parcels, told)
-    frame_of_points = frame_of(points, "points")
-    whole, moved = on_grid(frame_of_points, prepared)
-    where, numbers = ["outside"] * len(whole), [""] * len(whole)
-    with _islands(prepared) as folders:
+    prepared = register_of(parcels, zones, **options)
+    given, here, note = points_of(points, prepared)
+    whole, moved = on_grid(here, prepared)
+    where, rows = located(prepared, whole)
+    own = keys_at(prepared.parcel_key, [of[0] if at == "inside" else -1 for at, of in zip(where, rows)])
+    added = ("where", "numbers", "moved_mm", "moved_how")
+    name = free_name(own.name, [*map(str, given.columns), *added])
+    numbers = [",".join(prepared.number_of(row) for row in of) for of in rows]
+    values = {"where": where, name: own.array, "numbers": numbers, "moved_mm": moved, "moved_how": note}
+    result = given.copy()
+    for column, value in values.items():
+        result[column] = value
+    return result
+
+
+def located(prepared: Prepared, whole: Array) -> Tuple[List[str], List[List[int]]]:
+    """Where points in mm (n, 2) lie (`inside` | `edge` | `outside`), and the rows of the parcels there, each once."""
+    where = ["outside"] * len(whole)
+    rows: List[Dict[int, None]] = [{} for _ in range(len(whole))]
+    with islands_on_disk(prepared) as folders:
         for folder, island in folders:
             for at, (kind, records) in enumerate(_located(prepared, folder, island, whole)):
                 if kind != "outside":
                     where[at] = kind
-                    known = numbers_at(prepared, island.parcels, [record - 1 for record in records], "parcels")
-                    numbers[at] = ",".join([*filter(None, [numbers[at]]), *known])
-    table = points if isinstance(points, gpd.GeoDataFrame) else frame_of_points
-    return table.assign(where=where, numbers=numbers, moved_mm=moved, moved_how="measured")
+                    sources = (island.parcels.source[record - 1] for record in records)
+                    rows[at].update(dict.fromkeys(row for row in sources if row != OUT_ROW))
+    # In the area outside, which `frame` adds, there is no parcel.
+    return [kind if of or kind != "inside" else "outside" for kind, of in zip(where, rows)], [list(of) for of in rows]
 
 
-def _located(prepared: Prepared, folder: Path, island: Island, whole: Array) -> List[Tuple[str, List[int]]]:
+def _located(prepared: Prepared, folder: Path, island: Island, whole: Array) -> Sequence[Tuple[str, List[int]]]:
     try:
         if is_large(island.parcels.rings):
             return locate_in_island(island, whole.tolist())
         return tool.locate_points(folder / "city.shp", folder / "parcels.shp", whole.tolist())
     except Refused as refused:
         raise named(prepared, island, refused, "parcels") from refused
-
-
-def apply(
-    parcels: Register,
-    edits: Sequence[Any],
-    island: int = 1,
-    *,
-    zones: Optional[Source] = None,
-    number: str = "parcel_no",
-    zone: Optional[str] = None,
-    city: Optional[Source] = None,
-    frame: bool = False,
-    max_move: float = 1.0,
-    touch: Optional[float] = None,
-    grid: Optional[float] = None,
-    unit: Union[str, float, None] = None,
-    skip_invalid: bool = False,
-    narrow: float = 1.0,
-) -> gpd.GeoDataFrame:
-    """The parcels of an island after edits (`Split`, `Merge`, `Move`, `Insert`, `Straighten`, or lines of a clerk's
-    file in mm).
-
-    As `back` returns them: with their attributes, `came_from` and `edited`. `.attrs["answers"]` has the program's
-    answer to each edit, in order: `ok` and the entry's number, or `refused` and why; a refused edit changes nothing.
-    Refused H2 where the parcels do not tile the city, P13 for a number that is not there, L1 for a line that is no
-    edit.
-    """
-    told = {"zones": zones, "number": number, "zone": zone, "city": city, "frame": frame, "max_move": max_move}
-    told.update(touch=touch, grid=grid, unit=unit, skip_invalid=skip_invalid, narrow=narrow)
-    prepared = _prepared(parcels, told)
-    test_editable(prepared.islands[island - 1])
-    lines = lines_of(prepared, edits, island - 1)
-    with _islands(prepared) as folders:
-        folder, here = folders[island - 1]
-        clerk = folder / "edits.txt"
-        clerk.write_text("".join(f"{line}\n" for line in lines))
-        try:
-            answers = tool.export(folder / "city.shp", folder / "parcels.shp", folder / "new", [clerk])
-        except Refused as refused:
-            raise named(prepared, here, refused, "parcels") from refused
-        result = back(prepared, read_rings(folder / "new.shp"), island - 1)
-    result.attrs["answers"] = [answer.split(" ", 4)[4] for answer in answers]
-    return result

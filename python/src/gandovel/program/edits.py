@@ -6,11 +6,27 @@ from typing import Any, Callable, List, Sequence, Tuple, Union
 
 import numpy as np
 
+from ..arrays import Array
 from ..errors import Refused
+from ..reading.loops import as_text
 from ..reading.prepared import Prepared
 
-Parcel = Union[str, int]
+Parcel = Union[str, int, float]
+"""A parcel's own number, as its layer has it, or its `Id`."""
 Places = Sequence[Tuple[float, float]]
+
+
+class Id(int):
+    """A parcel's id in the program: its record from 1, or that of a row that an edit before made.
+
+    `Merge(3, 4)` names the parcels with the numbers 3 and 4, `Merge(Id(3), Id(4))` the program's third and fourth.
+    """
+
+    def __repr__(self) -> str:
+        return f"Id({int(self)})"
+
+    def __str__(self) -> str:
+        return str(int(self))
 
 
 @dataclass(frozen=True)
@@ -60,8 +76,8 @@ Edit = Union[Split, Merge, Move, Insert, Straighten]
 def lines_of(prepared: Prepared, edits: Sequence[Any], at: int = 0) -> List[str]:
     """The lines of a clerk's file, in whole millimetres. A line of text is taken as it is.
 
-    A parcel is named by its number (text), or by its id in the program (a whole number), as a row that an earlier edit
-    made has. Refused P13 for a number that is not there or has several records.
+    A parcel is named by its own number, or by its `Id` in the program, as a row that an earlier edit made has. Refused
+    P13 for a number that is not there or has several records.
     """
     return [edit if isinstance(edit, str) else _line(prepared, edit, at) for edit in edits]
 
@@ -86,16 +102,53 @@ def _line(prepared: Prepared, edit: Edit, at: int) -> str:
 
 
 def _id(prepared: Prepared, parcel: Parcel, at: int) -> int:
-    if isinstance(parcel, int):
-        return parcel
+    if isinstance(parcel, Id):
+        return int(parcel)
+    number = as_text(parcel)
     source = prepared.islands[at].parcels.source
-    records = [record for record, row in enumerate(source, 1) if row >= 0 and prepared.numbers[row] == parcel]
-    if len(records) != 1:
-        why = "is not there" if not records else f"has the records {', '.join(map(str, records))}: name one of them"
-        raise Refused("P13", f"it {why}", "parcels", number=parcel)
+    records = [record for record, row in enumerate(source, 1) if row >= 0 and prepared.numbers[row] == number]
+    if not records:
+        elsewhere = " in this part of the city" if number in prepared.numbers else ""
+        text = f"it is not there{elsewhere} (the program's ids are given as gandovel.Id(3))"
+        raise Refused("P13", text, "parcels", number=str(parcel))
+    if len(records) > 1:
+        ids = ", ".join(f"Id({record})" for record in records)
+        raise Refused("P13", f"it has several records: name one of {ids}", "parcels", number=number)
     return records[0]
 
 
+def island_of(prepared: Prepared, edit: Any) -> int:
+    """The island, from 0, that an edit is of: by the number of its first parcel, or its first corner.
+
+    Refused P13 where nothing says it: a line of text, or an `Id`, in a city of several parts; a corner of no parcel.
+    """
+    if len(prepared.islands) == 1:
+        return 0
+    first = getattr(edit, "parcel", getattr(edit, "one", None))
+    if first is None and isinstance(edit, (Insert, Straighten)):
+        corner = _whole([edit.first if isinstance(edit, Insert) else edit.corner], prepared)[0]
+        return _island_with(prepared, corner)
+    if first is None or isinstance(first, Id):
+        text = f"the city has {len(prepared.islands)} parts, and ids begin anew in each: say which one by island="
+        raise Refused("P13", text, "parcels")
+    number = as_text(first)
+    for at, island in enumerate(prepared.islands):
+        if any(row >= 0 and prepared.numbers[row] == number for row in island.parcels.source):
+            return at
+    raise Refused("P13", "it is not there", "parcels", number=str(first))
+
+
+def _island_with(prepared: Prepared, corner: Array) -> int:
+    for at, island in enumerate(prepared.islands):
+        if any((ring == corner).all(axis=1).any() for ring in island.parcels.rings):
+            return at
+    raise Refused("P13", f"no parcel has the corner {tuple((corner / prepared.scale).tolist())}", "parcels")
+
+
 def _path(prepared: Prepared, places: Places) -> str:
-    corners = np.floor(np.asarray(places, dtype=float) * prepared.scale + 0.5).astype(np.int64)
-    return " ".join(f"{x} {y}" for x, y in corners.tolist())
+    return " ".join(f"{x} {y}" for x, y in _whole(places, prepared).tolist())
+
+
+def _whole(places: Places, prepared: Prepared) -> Array:
+    """Places in the layer's unit as corners (n, 2) in whole mm."""
+    return np.asarray(np.floor(np.asarray(places, dtype=float) * prepared.scale + 0.5), dtype=np.int64)

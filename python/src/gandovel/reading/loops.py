@@ -44,7 +44,7 @@ def numbers_of(frame: gpd.GeoDataFrame, column: str, role: str, unique: bool) ->
         option = "zone" if role == "zones" else "number"
         what = f"there is no column {column}; there are {names}: name one by --{option}, or say --{option} {ROW}"
         raise Refused("P2", what, role=role)
-    texts = list(map(_as_text, frame[column].tolist()))
+    texts = list(map(as_text, frame[column].tolist()))
     seen: Dict[str, int] = {}
     problems = []
     for row, text in enumerate(texts):
@@ -59,7 +59,8 @@ def numbers_of(frame: gpd.GeoDataFrame, column: str, role: str, unique: bool) ->
     return [text for text in texts if text is not None]
 
 
-def _as_text(value: Any) -> Optional[str]:
+def as_text(value: Any) -> Optional[str]:
+    """A number as its layer has it, as text: `3` of 3 and 3.0; None of what is missing."""
     if pd.isna(value):
         return None
     if isinstance(value, float) and value.is_integer():

@@ -22,6 +22,8 @@ DEFAULTS: Dict[str, Any] = {
     "layer": None,
     "zones_layer": None,
     "city_layer": None,
+    "neighbours": None,
+    "neighbours_layer": None,
 }
 """The options by their names in Python, and what they are where they are not told."""
 

@@ -26,6 +26,7 @@ from ..program.limits import FARTHEST, MOST_CORNERS, too_large
 from ..progress import Progress
 from ..shapes import bounds_of
 from .digests import source_of
+from .keys import key_of
 from .loops import (
     CITY,
     PARCELS,
@@ -189,6 +190,9 @@ def prepare(
         beside = frame_of(neighbours, "neighbours", neighbours_layer)
         _test_beside(beside, "neighbours", layers.parcels, _box(layers.parcels), layers.unit)
         prepared.neighbours = neighbours_of(beside, layers.scale)
+    prepared.given_keys["parcels"] = key_of(parcels, layers.parcels, layers.number)
+    if layers.zones is not None:
+        prepared.given_keys["zones"] = key_of(zones, layers.zones, layers.zone)
     return prepared
 
 
@@ -254,7 +258,9 @@ def _tested(
     """The layers with their numbers and their unit; refuses bad geometries, mixed projections, extents apart."""
     for frame, role in ((parcels, "parcels"), (zones, "zones"), (city, "city")):
         if frame is not None and not len(frame):
-            raise Refused("P4", "the layer is empty: `ogrinfo -so FILE` says which layers a file has, and how many rows", role)
+            raise Refused(
+                "P4", "the layer is empty: `ogrinfo -so FILE` says which layers a file has, and how many rows", role
+            )
     names = numbers_of(parcels, number, "parcels", unique=True)
     lost = [text for frame in (parcels, zones, city) if frame is not None for text in frame.attrs.get("lost", ())]
     zone, zone_names = _zone_names(zones, zone, number)

@@ -23,6 +23,7 @@ from ..out import descriptions
 from ..out.gpkg import Table, read_layer_of, read_table_of, write_layers
 from ..program.layer_files import read_rings, write_rings
 from ..shapes import point_wkb
+from .keys import key_of
 from .loops import ROLES
 from .units import Unit
 
@@ -122,7 +123,7 @@ class Skipped:
         return cls(refused.role, row, refused.number or "", f"{refused.code} {told['text']}", told["x"], told["y"])
 
 
-@dataclass
+@dataclass(repr=False)
 class Prepared:
     """A register on the grid, in the unit of `parcels`; areas and places of its rows are exact.
 
@@ -146,6 +147,31 @@ class Prepared:
     skipped: List[Skipped] = field(default_factory=list)
     lost: List[str] = field(default_factory=list)
     neighbours: List[Neighbour] = field(default_factory=list)
+    given_keys: Dict[str, pd.Series] = field(default_factory=dict, repr=False)
+
+    def __repr__(self) -> str:
+        return f"<Prepared: {self.summary()}>"
+
+    def _repr_html_(self) -> str:
+        from ..out.notebook import html_of
+
+        return html_of(self, self.summary())
+
+    @property
+    def parcel_key(self) -> pd.Series:
+        """The parcels' own numbers with their own type, name and index, as they were given."""
+        return self._key("parcels", self.__dict__["parcels"], self.number)
+
+    @property
+    def zone_key(self) -> pd.Series:
+        """The zones' own names with their own type, name and index, as they were given."""
+        return self._key("zones", self.zones, self.zone)
+
+    def _key(self, role: str, layer: Any, column: str) -> pd.Series:
+        if role not in self.given_keys:
+            columns = layer.columns if isinstance(layer, Table) else layer
+            self.given_keys[role] = key_of(None, columns, column)
+        return self.given_keys[role]
 
     @property
     def scale(self) -> float:
