@@ -17,8 +17,8 @@ from models import OUTPUTS
 
 HERE = Path(__file__).resolve().parent
 MOST_SECONDS_OF_MANY = 2.0
-MOST_SECONDS_OF_LIVE = 10.0 if os.environ.get("CI") else 5.0
-"""Of a machine that others use, too."""
+MOST_SECONDS_OF_LIVE, MOST_OF_ARITHMETIC = 20.0, 0.5
+"""From an edit to the list, on a machine that others use, too; and of a processor for the arithmetic."""
 PROFILE = "profiles/default/QGIS/QGIS3.ini"
 SETTINGS = """[PythonPlugins]
 processing=true
@@ -172,12 +172,12 @@ def test_a_check_can_be_cancelled(seen: Dict[str, Any]) -> None:
 
 
 def test_each_edit_is_checked_at_once(seen: Dict[str, Any]) -> None:
-    """The fault that was mended leaves the list, which is not grey; in a second, of which the arithmetic has little."""
+    """The fault that was mended leaves the list, which is not grey."""
     work = seen["live work"]
     said, listed, waited, seconds = work["live"]
     assert "Checked while you edit: no gaps, 1 overlap, 1 open gap, no slivers." in said and not work["grey"]
     assert listed == work["first"][1:]
-    assert waited < MOST_SECONDS_OF_LIVE and seconds < MOST_SECONDS_OF_LIVE / 5
+    assert waited < MOST_SECONDS_OF_LIVE and seconds < MOST_OF_ARITHMETIC
 
 
 def test_the_list_is_sorted_filtered_and_stays(seen: Dict[str, Any]) -> None:

@@ -36,7 +36,7 @@ def changes_of(line: str) -> "tuple[int, List[Any]]":
 def answered(place: Neighbourhood, version: int, changed: List[Any]) -> Answer:
     """The answer to changes: the faults that went and came; or what is refused, with the features; or that the whole
     layer has to be checked again."""
-    begun = time.perf_counter()
+    begun = time.process_time()
     if place.lost:
         return {"version": version, "again": place.lost}
     try:
@@ -46,7 +46,7 @@ def answered(place: Neighbourhood, version: int, changed: List[Any]) -> Answer:
         return {"version": version, "again": place.lost}
     except Refused as refused:
         return {"version": version, "refused": [one.record_of() for one in refused.all]}
-    seconds = time.perf_counter() - begun
+    seconds = time.process_time() - begun
     return {"version": version, "gone": gone, "came": came, "seconds": seconds}
 
 
