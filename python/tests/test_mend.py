@@ -8,11 +8,14 @@ import subprocess
 import sys
 
 import geopandas as gpd
+import numpy as np
 import pytest
 from hypothesis import HealthCheck, given, settings, strategies as st
 from shapely.geometry import Polygon, box
+from shapely.ops import transform
 
 import gandovel as gv
+from slanted import slanted
 
 EAST, NORTH = 561_000, 5_934_000
 FEW = settings(max_examples=6, deadline=None, suppress_health_check=list(HealthCheck))
@@ -142,3 +145,47 @@ def test_the_command_ends_by_the_verdict_and_its_layer_opens_at_once(tmp_path):
     assert len(gpd.read_file(tmp_path / "mended.gpkg", layer="changes")) == len(answer["closed"])
     command(tmp_path, "mend", "mended.gpkg", "--touch", "0", "--out", "twice.gpkg")
     assert command(tmp_path, "check", "twice.gpkg", "--touch", "0").returncode == 0, "with no change, too"
+
+
+def rounded(frame, step):
+    """A layer whose coordinates are rounded to a step."""
+
+    def whole(x, y):
+        return np.round(np.asarray(x) / step) * step, np.round(np.asarray(y) / step) * step
+
+    return frame.set_geometry([transform(whole, shape) for shape in frame.geometry], crs=frame.crs)
+
+
+def one_corner_finer(frame):
+    """A layer of which one corner lies at the millimetre."""
+    shapes = list(frame.geometry)
+    (x, y), *others = shapes[10].exterior.coords[:-1]
+    shapes[10] = Polygon([(x + 0.001, y + 0.002), *others])
+    return frame.set_geometry(shapes, crs=frame.crs)
+
+
+MIXED = {
+    "one corner at the millimetre": one_corner_finer,
+    "degrees of seven decimals": lambda frame: rounded(frame.to_crs(4326), 1e-7).to_crs(frame.crs),
+    "another zone's centimetres": lambda frame: rounded(frame.to_crs(25833), 0.01).to_crs(frame.crs),
+    "some from degrees": lambda frame: frame.set_geometry(
+        [
+            other if at % 3 == 0 else own
+            for at, (own, other) in enumerate(
+                zip(frame.geometry, rounded(frame.to_crs(4326), 1e-7).to_crs(frame.crs).geometry)
+            )
+        ],
+        crs=frame.crs,
+    ),
+}
+
+
+@pytest.mark.parametrize("name", MIXED)
+@pytest.mark.parametrize("touch", [None, 0])
+def test_registers_of_mixed_precision_are_mended_but_for_what_is_wide(name, touch):
+    """Of a gap and an overlap of 200 mm, which are wider than is asked for, both are left, and nothing else."""
+    frame, planted = slanted(7, 8, 8, 2, {20: 0.2, 33: -0.2})
+    mended = gv.mend(gv.prepare(MIXED[name](frame), touch=touch), 150)
+    assert len(planted) == 2 and mended.left == [] and mended.verdict == "does not tile"
+    assert (len(mended.report.gaps), len(mended.report.overlaps), len(mended.report.slivers)) == (1, 1, 0)
+    assert sorted(mended.report.faults().kind[:2]) == ["gap", "overlap"]

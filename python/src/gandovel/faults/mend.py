@@ -9,7 +9,7 @@ import tempfile
 from collections import defaultdict
 from dataclasses import dataclass, field
 from pathlib import Path
-from typing import Any, Dict, List, Optional, Union, Unpack
+from typing import Any, Dict, List, Optional, Tuple, Union, Unpack
 
 import geopandas as gpd
 import pandas as pd
@@ -25,7 +25,7 @@ from ..program.verdicts import checked, layer_faults, write_island
 from ..reading.prepared import Island, Prepared
 from ..reading.register import Options, Register, register_of
 from ..reading.sources import Source
-from .pieces import CHOICES, Piece, mended_rows
+from .pieces import CHOICES, MendedRows, Piece, mended_rows
 from .polygons import Fault, fault_area
 
 NOTES = {
@@ -35,6 +35,8 @@ NOTES = {
     "number, or the two that it lies between). Exact, but for a border that ended at a crossing and was rounded.",
 }
 COLUMNS = ("kind", "number", "lost_by", "area2_mm2", "area2_most_mm2", "area_m2", "x", "y")
+PASSES = 3
+"""So often a part of the city is passed over at most."""
 UNNAMED = "MENDED-"
 """How rows are numbered that have what goes to no parcel (`none`), from 1."""
 
@@ -97,16 +99,36 @@ def mend(
     first_new = len(prepared.numbers)
     islands, found = [], []
     for island in prepared.islands:
-        done = mended_rows(island, _narrow(prepared, island, width), to, first_new)
-        first_new += sum(piece.to is not None and piece.to >= first_new for piece in done.closed)
-        islands.append(Island(island.city, done.rows, None))
-        found.append(done)
+        now, done = _mended_island(prepared, island, width, to, first_new)
+        first_new += sum(piece.to is not None and piece.to >= first_new for one in done for piece in one.closed)
+        islands.append(now)
+        found += done
     again = _with_islands(prepared, islands, first_new)
-    closed = [_told(again, piece) for done in found for piece in done.closed]
-    left = [_told(again, piece) for done in found for piece in done.left]
     answer = report(again)
+    closed = [_told(again, piece) for done in found for piece in done.closed]
     is_whole = answer.verdict != "does not tile"  # what is left went where borders were rounded to the grid
-    return Mended(again.parcels, answer, closed, [] if is_whole else left)
+    left = [] if is_whole else [_told(again, piece) for done in found if done.is_last for piece in done.left]
+    return Mended(again.parcels, answer, closed, left)
+
+
+def _mended_island(
+    prepared: Prepared, island: Island, width: float, to: str, first_new: int
+) -> Tuple[Island, List[MendedRows]]:
+    """An island without its narrow faults, and what came of them; what one pass leaves or rounds apart is tried anew."""
+    found: List[MendedRows] = []
+    for _ in range(PASSES):
+        faults = _narrow(prepared, island, width)
+        if not faults:
+            break
+        done = mended_rows(island, faults, to, first_new)
+        first_new += sum(piece.to is not None and piece.to >= first_new for piece in done.closed)
+        island = Island(island.city, done.rows, None)
+        found.append(done)
+        if not done.closed:
+            break
+    for done in found[-1:]:
+        done.is_last = True
+    return Island(island.city, island.parcels, None), found
 
 
 def _narrow(prepared: Prepared, island: Island, width: float) -> List[Fault]:

@@ -58,12 +58,16 @@ class Piece:
 
 @dataclass
 class MendedRows:
-    """What comes of an island: its rows, the polygons of those rows that changed, and the pieces closed and left."""
+    """What comes of an island: its rows, the polygons of those rows that changed, and the pieces closed and left.
+
+    `is_last` says that no other pass came after it.
+    """
 
     rows: Rows
     polygons: Dict[int, List[Tuple[Array, List[Array]]]] = field(default_factory=dict)
     closed: List[Piece] = field(default_factory=list)
     left: List[Piece] = field(default_factory=list)
+    is_last: bool = False
 
 
 def mended_rows(island: Island, faults: Sequence[Fault], to: str, first_new: int) -> MendedRows:
