@@ -244,7 +244,9 @@ def _tested(
     """The layers with their numbers and their unit; refuses bad geometries, mixed projections, extents apart."""
     for frame, role in ((parcels, "parcels"), (zones, "zones"), (city, "city")):
         if frame is not None and not len(frame):
-            raise Refused("P4", "the layer is empty: `ogrinfo -so FILE` says which layers a file has, and how many rows", role)
+            raise Refused(
+                "P4", "the layer is empty: `ogrinfo -so FILE` says which layers a file has, and how many rows", role
+            )
     names = numbers_of(parcels, number, "parcels", unique=True)
     lost = [text for frame in (parcels, zones, city) if frame is not None for text in frame.attrs.get("lost", ())]
     zone, zone_names = _zone_names(zones, zone, number)
