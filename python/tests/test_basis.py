@@ -1,17 +1,18 @@
 """What a verdict stands on, certificates, known faults, and options where they would change nothing."""
 from __future__ import annotations
 
+import hashlib
 import json
 
 import geopandas as gpd
-import numpy as np
+import pandas as pd
 import pytest
 from shapely.geometry import Polygon
 
 import gandovel as gv
 from gandovel.faults.identity import identity_of
 from gandovel.out.certificate import verify, write_certificate
-from planted import drawn, reshaped, rounded
+from planted import drawn, rounded
 from test_register import command
 
 
@@ -83,8 +84,6 @@ def test_one_record_in_json_the_report_and_python(layer, folder):
         assert told[key] == again[key] == json.loads(json.dumps(here[key])), key
     (source,) = told["sources"]
     assert (source["role"], source["layer"], source["sha256_of"]) == ("parcels", "plots", "file")
-    import hashlib
-
     assert source["sha256"] == hashlib.sha256(layer.read_bytes()).hexdigest() and len(told["program"]["sha256"]) == 64
     assert told["precision"]["how"] == "grid" and told["precision"]["grid_mm"] == 10 and told["touch_mm"] == 14.2
     assert told["time"].endswith("+00:00")
@@ -140,7 +139,7 @@ def test_known_faults_do_not_count(layer, known):
     x0, y0, x1, y1 = frame.geometry[0].bounds
     stamp = Polygon([(x0, y0), (x1, y0), (x1, y1), (x0, y1)]).intersection(frame.geometry[0].buffer(-2))
     more = gpd.GeoDataFrame({"parcel_no": ["stamp"]}, geometry=[stamp], crs=frame.crs)
-    gpd.GeoDataFrame(gpd.pd.concat([frame, more], ignore_index=True), crs=frame.crs).to_file(
+    gpd.GeoDataFrame(pd.concat([frame, more], ignore_index=True), crs=frame.crs).to_file(
         layer, layer="plots", driver="GPKG"
     )
     ended = command("check", "parcels.gpkg", "--known", name, cwd=folder)

@@ -41,7 +41,7 @@ def test_what_is_planted_is_found_and_nothing_else(name, tmp_path):
         total += counts
     print(f"\n{name:22} {EACH:5} layers: {total.found:5} found, {total.missed} missed, {total.false} false", end="")
     print(f", {len(undecided)} left open" if undecided else "")
-    assert len(undecided) <= EACH // 10, f"{name}: what is noise was not decided for {undecided}"
+    assert len(undecided) <= max(1, EACH // 10), f"{name}: what is noise was not decided for {undecided}"
 
 
 def points_in(frame):

@@ -70,7 +70,8 @@ def verify(path: Union[str, "os.PathLike[str]"]) -> List[str]:
 
 
 def _path(layers: Dict[str, Dict[str, Any]], role: str) -> Optional[str]:
-    return layers[role]["path"] if role in layers else None
+    path: Optional[str] = layers[role]["path"] if role in layers else None
+    return path
 
 
 def _read(path: Union[str, "os.PathLike[str]"]) -> Dict[str, Any]:
