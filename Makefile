@@ -2,16 +2,22 @@
 .POSIX:
 
 help:
-	@echo 'make demo     the overlay of the town in examples/town, built without proofs'
-	@echo 'make quick    the tests without proofs; not the gate'
+	@echo 'make build    the program of the present text, without proofs: crates/parcel_tool/out/parcel_tool'
+	@echo 'make demo     builds it, and prints the overlay of the town in examples/town'
+	@echo 'make quick    builds it, and tries what changed since the last commit, without proofs; not the gate'
 	@echo 'make test     the gate: every proof, mutant, test and run (.ci/run)'
 	@echo 'make mutants  tries every mutant of both tiers; goes on where it was stopped; hours from nothing'
 	@echo 'make release  what is handed out, in dist/: static program, .tar.gz, wheel, .deb, QGIS plugin, of a commit that passed the gate here'
 	@echo 'make bench    measures speed and memory (benches/all.sh)'
 
+build:
+	@scripts/build_unproved
+
 demo:
-	@town="$$PWD/examples/town"; cd crates/parcel_tool && \
-	rt try -- overlay "$$town/city.shp" "$$town/parcels.shp" "$$town/zones.shp" --unit cm
+	@echo 'demo: compiles the program without proofs (two to three minutes of a processor, once for each text)'
+	@scripts/build_unproved
+	@echo 'demo: cd examples/town; parcel_tool overlay city.shp parcels.shp zones.shp --unit cm'
+	@cd examples/town && ../../crates/parcel_tool/out/parcel_tool overlay city.shp parcels.shp zones.shp --unit cm
 
 quick:
 	@python3 scripts/quick
@@ -28,4 +34,4 @@ release:
 bench:
 	@benches/all.sh
 
-.PHONY: help demo quick test mutants release bench
+.PHONY: help build demo quick test mutants release bench

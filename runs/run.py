@@ -1,12 +1,13 @@
 #!/usr/bin/env python3
 """Runs the built program on each row of the tables beside this script, and compares what it writes and its status.
 
-    runs/run.py [--all-workers] [PROGRAM ..]
+    runs/run.py [--all-workers] [NAME.table ..] [PROGRAM ..]
 
-With no word it takes the programs that `rt ci` leaves, one by each compiler, and the static one
-(scripts/static_program) where it is there. A program whose name ends in `.static` runs with no environment and no
-/proc. Each row whose commands can share their work among threads runs once more with `--workers 3`, and with
-`--all-workers` with 1 and 64, too: what comes out must be the same. A table has rows such as
+With no NAME.table it tries all tables. With no PROGRAM it takes those that `rt ci` leaves, one by each compiler, and
+the static one (scripts/static_program) where it is there; `make build` leaves an unproved one. A program whose name
+ends in `.static` runs with no environment and no /proc. Each row whose commands can share their work among threads runs
+once more with `--workers 3`, and with `--all-workers` with 1 and 64, too: what comes out must be the same. A table has
+rows such as
 
     == A layer without an index
     + square.shp: square.shp
@@ -268,10 +269,16 @@ def run(program, row):
 def main():
     built = [it for it in (BUILT, BUILT + ".by-rattle", BUILT + STATIC) if os.path.isfile(it)]
     numbers = ALL_NUMBERS if "--all-workers" in sys.argv else ONE_NUMBER
-    programs = [Program(os.path.abspath(it)) for it in [it for it in sys.argv[1:] if it != "--all-workers"] or built]
+    words = [it for it in sys.argv[1:] if it != "--all-workers"]
+    chosen = [it for it in words if it.endswith(".table")]
+    programs = [Program(os.path.abspath(it)) for it in [it for it in words if it not in chosen] or built]
     if not programs:
-        sys.exit("no program is built: rt ci builds it, or rt run in crates/parcel_tool")
+        sys.exit("no program is built: make build compiles it without proofs, and make test with them")
     tables = sorted(it for it in os.listdir(HERE) if it.endswith(".table"))
+    unknown = [it for it in chosen if it not in tables]
+    if unknown:
+        sys.exit(f"no table {unknown[0]}: there are {' '.join(tables)}")
+    tables = chosen or tables
     rows = [(table, row) for table in tables for row in rows_of(os.path.join(HERE, table))]
     rows += [(table, again) for table, row in rows for again in [with_workers(row, it) for it in numbers] if again]
     any_failed = not rows

@@ -2,7 +2,8 @@
 """Fails where a mutant (crates/NAME/must-fail/*.edit, crates/NAME/more-wrong-bodies/*.edit) cannot be applied: each
 `old:` line has to stand in its file exactly once, and each `new:` line has to change it. The gate tells of such an edit
 and passes all the same, and does not look at the second folder. It fails too where both folders have a mutant of one
-name, and where the README of a crate marks one by `†` that is not in the second folder, or leaves the mark out.
+name, where one of `scripts/gate_mutants.txt` is not in the second folder, and where the README of a crate marks one by
+`†` that is not in the second folder, or leaves the mark out.
 
     scripts/check_edits.py [--mark]     with --mark it first puts the marks right
 """
@@ -13,6 +14,7 @@ from pathlib import Path
 ROOT = Path(__file__).resolve().parent.parent
 TIERS = ("must-fail", "more-wrong-bodies")
 MARK = "†"
+LISTED = ROOT / "scripts/gate_mutants.txt"
 
 
 def faults_of(edit):
@@ -90,8 +92,11 @@ def main():
         for edit in second
         if (edit.parent.parent, edit.name) in names
     ]
+    listed = [it for it in LISTED.read_text().splitlines() if it and not it.startswith("#")]
+    there = {f"{edit.parent.parent.name}/{edit.stem}" for edit in second}
+    faults += [f"{LISTED.relative_to(ROOT)}: {it} is not in {TIERS[1]}" for it in listed if it not in there]
     faults += mark_faults(first + second, sys.argv[1:] == ["--mark"])
-    counts = f"{len(first)} in {TIERS[0]}, {len(second)} in {TIERS[1]}"
+    counts = f"{len(first)} in {TIERS[0]}, {len(second)} in {TIERS[1]}, {len(listed)} of these kept by every gate"
     print("\n".join(faults) if faults else f"mutants: {counts}, each can be applied")
     return 1 if faults else 0
 

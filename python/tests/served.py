@@ -14,7 +14,8 @@ from typing import Any, Dict, List, Optional, Sequence
 
 import geopandas as gpd
 import requests
-from shapely.geometry import Polygon
+from pyproj import Transformer
+from shapely.geometry import Polygon, box
 
 import gandovel
 from session_register import Corner, Register, Ring
@@ -164,3 +165,29 @@ def put_in_and_out(ring: Ring) -> List[str]:
 def pretty(response: requests.Response) -> str:
     """An answer, to be read where a test fails."""
     return f"{response.status_code} {json.dumps(response.json())[:400]}"
+
+
+def grid_layer(folder: Path, epsg: int, place: Sequence[float], columns: int, rows: int, **more: Any) -> Path:
+    """A layer of squares of 10 m near a place (longitude, latitude), in a projection, with numbers such as `12-3/4`."""
+    x0, y0 = (round(z) for z in Transformer.from_crs("OGC:CRS84", epsg, always_xy=True).transform(*place))
+    cells = [(column, row) for row in range(rows) for column in range(columns)]
+    shapes = [box(x0 + 10 * a, y0 + 10 * b, x0 + 10 * a + 10, y0 + 10 * b + 10) for a, b in cells]
+    table = {
+        "parcel_no": [f"{12 + b}-{3 + a}/4" for a, b in cells],
+        "built": "1999-12-31",
+        "owner": "town",
+        "floors": 3,
+    }
+    parcels = gpd.GeoDataFrame({**table, **more}, geometry=shapes, crs=epsg)
+    parcels.to_file(folder / "source.shp", encoding="utf-8")
+    gandovel.prepare(gpd.read_file(folder / "source.shp"), number="parcel_no").save(folder / "work")
+    return folder / "work"
+
+
+def ogr(*words: str, **settings: str) -> str:
+    """What a program of GDAL prints. One that fails, or tells of an error, fails."""
+    ended = subprocess.run(
+        words, stdout=subprocess.PIPE, stderr=subprocess.STDOUT, text=True, timeout=300, env={**os.environ, **settings}
+    )
+    assert ended.returncode == 0 and "ERROR" not in ended.stdout, ended.stdout[-3000:]
+    return ended.stdout

@@ -21,7 +21,7 @@ from shapely.geometry import Point, Polygon
 import gandovel
 from gandovel import Refused
 from gandovel.cli import main
-from gandovel.faults.polygons import twice_area
+from gandovel.exact.rings import twice_area
 from gandovel.large import Cutting, cut_by, is_large
 from gandovel.large import compose, cutting, frames, runs, tiles, verdict
 from gandovel.large.cutting import cut, partition_faults

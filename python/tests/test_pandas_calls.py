@@ -264,13 +264,13 @@ def test_maps_and_files(h, tmp_path):
 RAISES = {
     "zones for what is prepared": (
         lambda h: gv.overlay(gv.prepare(h), zones()),
-        TypeError,
-        "give zones to gandovel.pre",
+        gv.Refused,
+        "P18 the register is prepared already",
     ),
     "options for what is prepared": (
         lambda h: gv.check(gv.prepare(h), touch=0),
-        TypeError,
-        "give touch to gandovel.pr",
+        gv.Refused,
+        "P18 the register is prepared already",
     ),
     "a word that is none": (lambda h: gv.check(h, nummer="parcel_no"), TypeError, "nummer"),
     "least area in the zones' place": (lambda h: gv.report(h, 2.0), TypeError, "zones: a path, a GeoDataFrame"),

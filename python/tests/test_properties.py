@@ -11,7 +11,8 @@ from shapely.errors import TopologicalError
 from shapely.geometry import MultiPoint, Polygon
 
 import gandovel as gv
-from gandovel.faults.polygons import faults_of, twice_area
+from gandovel.exact.rings import twice_area
+from gandovel.faults.polygons import faults_of
 from gandovel.exact.grid import twice_area as ring_area
 from gandovel.exact.holes import cut_holes
 from gandovel.exact.noding import points_of

@@ -149,7 +149,12 @@ def test_a_corner_that_differs_by_noise_is_told():
     assert list(zip(rows.change, rows.number)) == [("gathered", "right")]
 
 
-MEASURED = {"overlaps": "numbers", "split": "sliver", "split_parts": "area_m2, share, sliver", "changes": "distance_mm"}
+MEASURED = {
+    "open_gaps": "numbers",
+    "split": "sliver",
+    "split_parts": "area_m2, share, sliver",
+    "changes": "distance_mm",
+}
 
 
 def test_layers_say_what_is_measured(folder):
@@ -161,10 +166,14 @@ def test_layers_say_what_is_measured(folder):
     for name, columns in MEASURED.items():
         _, measured, rest = notes[name].partition("easured")
         assert measured and columns in rest, name
-    assert "easured" not in notes["gaps"] and "Exact" in notes["gaps"]
+    for name in ("gaps", "overlaps", "beyond"):
+        assert "easured" not in notes[name] and "Exact" in notes[name], name
     layers = {name: gpd.read_file(folder / "at_once.gpkg", layer=name) for name in notes if name != "layer_styles"}
-    assert set(layers["gaps"].numbers_how) == {"exact"} and set(layers["overlaps"].numbers_how) == {"measured"}
-    assert set(layers["gaps"].area_how) == set(layers["overlaps"].area_how) - {"exact fraction"} == {"exact"}
+    for name in ("gaps", "overlaps"):
+        rows = layers[name]
+        assert set(rows.numbers_how) == {"exact"} and set(rows.area_how) <= {"exact", "within 1"}
+        apart = rows.area2_most_mm2.astype(int) - rows.area2_mm2.astype(int)
+        assert [how == "within 1" for how in rows.area_how] == (apart == 1).tolist() and set(apart) <= {0, 1}
     assert set(layers["split"].sliver_how) == set(layers["split_parts"].area_how) == {"measured"}
     assert len(layers["changes"]) == len(gpd.read_file(folder / "work/changes.gpkg"))
 
@@ -172,8 +181,8 @@ def test_layers_say_what_is_measured(folder):
 def test_the_layers_themselves_are_reported_at_once(folder):
     told = command("report", "parcels.gpkg", "--zones", "zones.gpkg", "--frame", "--out", "framed.gpkg", cwd=folder)
     assert told.returncode == 1, told.stderr
-    prepared, found = told.stdout.splitlines()
-    assert prepared.startswith("202 parcels -> 226 rings ")
+    prepared, basis, found = told.stdout.splitlines()
+    assert prepared.startswith("202 parcels -> 226 rings ") and basis.startswith("no grid, ")
     assert found.startswith("1 gap (7.09 m2), 2 overlaps (762.27 m2, 0.46 m2); ")
     assert "OUT" not in set(gpd.read_file(folder / "framed.gpkg", layer="parcels").number)
 

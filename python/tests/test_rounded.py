@@ -11,7 +11,7 @@ from hypothesis import HealthCheck, given, settings, strategies as st
 from shapely.geometry import Polygon, box
 
 import gandovel as gv
-from gandovel.reading.touching import step_of
+from gandovel.reading.precision import grids_of
 from registers import register
 from slanted import slanted
 
@@ -174,6 +174,10 @@ def test_what_mending_leaves_open_is_told():
 
 def test_steps_are_found():
     corners = np.arange(200, dtype=float).reshape(-1, 2) * 10 + 10**9
-    assert step_of(corners, 1000.0, 1e-6) == 10 and step_of(corners + 0.5, 1000.0, 1e-6) == pytest.approx(0.1)
-    assert step_of(corners * 10, 1000.0, 1e-6) == 100 and step_of(corners[:9] * 10, 1000.0, 1e-6) == 10
-    assert step_of(corners * np.pi, 1000.0, 1e-4) is None
+
+    def step_of(some, noise=1e-6):
+        return grids_of(some, 1000.0, noise).main
+
+    assert step_of(corners) == 10 and step_of(corners + 0.5) == 0.5 and step_of(corners + 0.3) == pytest.approx(0.1)
+    assert step_of(corners * 10) == 100 and step_of(corners[:9] * 10) == 10
+    assert step_of(corners * np.pi, 1e-4) is None

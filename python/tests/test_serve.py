@@ -54,7 +54,7 @@ def test_landing_conformance_and_definition(read):
     definition = requests.get(links["service-desc"]["href"], timeout=60)
     assert definition.headers["content-type"].startswith("application/vnd.oai.openapi+json")
     assert definition.json()["openapi"].startswith("3.0")
-    assert {"/locate", "/edits", "/collections/{collection}/items"} <= set(definition.json()["paths"])
+    assert {"/locate", "/edits", "/collections/{collectionId}/items"} <= set(definition.json()["paths"])
     for path in (
         "/",
         "/collections",
@@ -107,7 +107,7 @@ def test_attributes_as_json_has_them():
     }
     frame = gpd.GeoDataFrame(columns, geometry=[Point(0, 0), Point(1, 0)], crs=25832)
     assert attributes_of(frame, "parcel_no") == [
-        {"layer_ID": 5, "layer_ID_": "a", "day": "2020-01-31 00:00:00", "layer_Ring_mm": 1, "share": 0.5},
+        {"layer_ID": 5, "layer_ID_": "a", "day": "2020-01-31", "layer_Ring_mm": 1, "share": 0.5},
         {"layer_ID": 6, "layer_ID_": None, "day": None, "layer_Ring_mm": None, "share": None},
     ]
     assert attributes_of(frame[["parcel_no", "geometry"]], "parcel_no") == [{}, {}]

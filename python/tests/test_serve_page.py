@@ -36,6 +36,17 @@ def browser():
     driver.quit()
 
 
+@pytest.fixture(autouse=True)
+def few_tabs(browser):
+    """A browser has six connections to a server, and each page's stream takes one: a test's tabs are closed after it."""
+    yield
+    first, *others = browser.window_handles
+    for handle in others:
+        browser.switch_to.window(handle)
+        browser.close()
+    browser.switch_to.window(first)
+
+
 class Window:
     """A tab of the browser with the page."""
 
@@ -85,7 +96,7 @@ class Window:
         box.clear()
         box.send_keys(number)
         self.press("#search button")
-        until(lambda: f"Parcel {number}" in self.text("parcel"))
+        until(lambda: number in self.text("parcel").splitlines()[0])
 
 
 def test_three_windows(served, browser):
@@ -122,17 +133,64 @@ def test_three_windows(served, browser):
         else:
             third.press("#undo")
         until(lambda: third.text("reason") == said)
-    third.press("#send")
-    until(lambda: "The register has gone on to entry 1 (split by local)" in third.text("answer"))
-    assert len(served.lines()) == 1
-    third.press("#send")
+    third.press("#send")  # it has not heard of entry 1, which is of another parcel
     until(lambda: third.text("answer").startswith("Done: entry 2"))
     assert served.lines()[1] == "merge 1 2"
+
+    third.choose("A9")
+    third.press('[data-tool="merge"]')
+    third.click_place([sum(z) // 4 for z in zip(*moved(RINGS[9]))])
+    until(lambda: third.text("reason") == "It can be sent.")
+    assert served.edit("merge 10 11").status_code == 200
+    third.press("#send")
+    until(lambda: "The register has gone on to entry 3 (merge by local)" in third.text("answer"))
+    assert len(served.lines()) == 3
     replayed(CITY, RINGS, served.lines())
     for window in (clerk, second, third):
         window.here()
         wrong = [it for it in browser.get_log("browser") if it["level"] == "SEVERE"]
         assert [it for it in wrong if "412" not in it["message"]] == []
+
+
+def test_corners_are_typed(served, browser):
+    """A clerk without a mouse: the cut's corners are typed to the millimetre; what is no place is told."""
+    window = Window(browser, served.address)
+    ring = moved(RINGS[15])
+    window.choose("A16")
+    window.press('[data-tool="split"]')
+    for text in ("", "600000", "1,5 2,5 3", "600000.1234 5500000"):
+        window.type("place", text)
+        window.press("#put")
+        assert "with three decimals at most" in window.text("answer"), text
+        browser.find_element("id", "place").clear()
+    middle = [sum(z) // 4 + 1 for z in zip(*ring)]
+    for place in (ring[0], middle, ring[2]):
+        window.type("place", " ".join(f"{z // 1000}.{z % 1000:03d}" for z in place))
+        window.press("#put")
+    until(lambda: window.text("reason") == "It can be sent.")
+    window.press("#send")
+    until(lambda: window.text("answer").startswith("Done: entry"))
+    path = " ".join(f"{x} {y}" for x, y in (ring[0], middle, ring[2]))
+    assert served.lines()[-1] == f"split 16 {path}"
+
+
+def test_numbers_are_drawn_and_the_whole_lineage(served, browser):
+    window = Window(browser, served.address)
+    ids = [it["id"] for it in served.ask("/collections/parcels/items?number=A16").json()["features"]]
+    assert served.edit("merge {} {}".format(*ids)).status_code == 200
+    until(lambda: "last: merge" in window.text("state"))
+    window.choose("A16")
+    until(lambda: "Made by" in window.text("parcel"))
+    told = window.text("parcel")
+    assert "without a number, from A16" in told.splitlines()[0]
+    assert told.index("merge, local") < told.index("split, local") < told.index("parcel A16")
+    script = "return [...document.querySelectorAll('.number span')].map((it) => it.textContent)"
+    window.here()
+    browser.execute_script("drawing.parcels.showAll(); drawing.numbers();")
+    numbers = {it["number"] for it in served.ask("/parcels").json()["parcels"]} - {None}
+    assert set(browser.execute_script(script)) == numbers
+    browser.execute_script("drawing.map.setZoom(drawing.map.getZoom() - 6, { animate: false })")
+    until(lambda: browser.execute_script(script) == [])
 
 
 def test_checks_agree_with_the_program(served, browser):

@@ -11,8 +11,8 @@ from .program import NO_PROGRAM, Ended, NotFound, Watcher, run
 
 PACKAGE_SIDE = Path(__file__).with_name("package_side") / "answer.py"
 """What the package's own Python runs where the package has no command for it."""
-KINDS = ("gap", "overlap", "open_gap", "sliver")
-LAYERS = {"gap": "gaps", "overlap": "overlaps", "open_gap": "open_gaps", "sliver": "slivers"}
+KINDS = ("gap", "overlap", "beyond", "open_gap", "sliver")
+LAYERS = {"gap": "gaps", "overlap": "overlaps", "beyond": "beyond", "open_gap": "open_gaps", "sliver": "slivers"}
 """The layer of a report, and the name of its count, for each kind of fault."""
 Answer = Dict[str, Any]
 _ERROR = re.compile(
@@ -140,8 +140,14 @@ def notes_of(answer: Answer) -> List[str]:
 
 def verdict_of(answer: Answer) -> str:
     """One line: the verdict and the count of each kind of fault."""
-    names = (("gap", "gap"), ("overlap", "overlap"), ("open_gap", "open gap"), ("sliver", "sliver"))
     counts = counts_of(answer)
-    told = ", ".join(f"{counts[kind] or 'no'} {name}{'' if counts[kind] == 1 else 's'}" for kind, name in names)
+    beyond = [("beyond", "part beyond the city")] if counts["beyond"] else []
+    names = [("gap", "gap"), ("overlap", "overlap"), *beyond, ("open_gap", "open gap"), ("sliver", "sliver")]
+    told = ", ".join(f"{counts[kind] or 'no'} {_plural(name, counts[kind])}" for kind, name in names)
     verdict = {"tiles": "The parcels tile the city", "does not tile": "The parcels do not tile the city"}
     return f"{verdict.get(answer.get('verdict', ''), 'The verdict is open')}: {told}."
+
+
+def _plural(name: str, count: int) -> str:
+    first, space, rest = name.partition(" beyond")
+    return f"{first}{'' if count == 1 else 's'}{space}{rest}"

@@ -27,7 +27,7 @@ from .marks import Marks
 from .missing_corner import insert, missing_corners, near_of, shapes_of
 
 TITLE = "Faults of parcels"
-NAMES = {"gap": "Gap", "overlap": "Overlap", "open_gap": "Open gap", "sliver": "Sliver"}
+NAMES = {"gap": "Gap", "overlap": "Overlap", "beyond": "Beyond the city", "open_gap": "Open gap", "sliver": "Sliver"}
 COLUMNS = ("Kind", "Area (m²)", "Parcels")
 USUAL_FIELDS = ("parcel_no", "number", "parcel")
 SHORT = 10

@@ -17,6 +17,7 @@ from .many.command import add_command, run_command
 from .serve.command import add_commands, run_backup, run_serve
 
 if TYPE_CHECKING:
+    from .out.report import Report
     from .progress import Progress
     from .reading.prepared import Prepared
 
@@ -49,6 +50,12 @@ def _answering(command: argparse.ArgumentParser) -> None:
     forms.add_argument("--csv", action="store_true", help="a table on standard output")
 
 
+def _asked_about(command: argparse.ArgumentParser, count: Optional[str] = None) -> None:
+    """The register that a command asks about."""
+    what = "what prepare wrote, or the parcels' layer"
+    command.add_argument("source", metavar="FOLDER|PARCELS", nargs=count, help=what)
+
+
 def _add_questions(commands: Any) -> None:
     """The commands that ask and write no layer, and `report`."""
     check = commands.add_parser("check", help="gaps and overlaps, printed")
@@ -56,12 +63,15 @@ def _add_questions(commands: Any) -> None:
     overlay = commands.add_parser("overlay", help="which parcels lie in which zones, printed")
     locate = commands.add_parser("locate", help="in which parcels points lie, printed")
     for command in (check, report, overlay, locate):
-        command.add_argument("source", metavar="FOLDER|PARCELS", help="what prepare wrote, or the parcels' layer")
+        _asked_about(command, "?" if command is check else None)
         _preparing(command)
         add_options(command)
         _answering(command)
     for command in (check, report):
         command.add_argument("--strict", action="store_true", help=argparse.SUPPRESS)  # what is always so by now
+        command.add_argument("--known", metavar="FILE", help="an earlier report: its faults don't count for the status")
+    check.add_argument("--certificate", metavar="FILE", help="write the verdict and what it stands on, as JSON")
+    check.add_argument("--verify", metavar="FILE", help="try the verdict of a certificate again")
     report.add_argument("--out", metavar="REPORT.gpkg", help="the GeoPackage to write; split.csv beside it")
     report.add_argument(
         "--min-area", metavar="M2", type=float, default=1.0, help="parts of less, as measured, are slivers (1)"
@@ -92,6 +102,13 @@ def parser() -> argparse.ArgumentParser:
     _preparing(mend)
     _answering(mend)
     mend.add_argument("--width", metavar="MM", type=float, default=1.0, help="nothing wider is closed (1)")
+    mend.add_argument(
+        "--to",
+        choices=("border", "larger", "older", "none"),
+        default="border",
+        help="who gets a piece: the parcel with the longest border with it (border), the largest, the first in the "
+        "layer, or a row of its own",
+    )
     mend.add_argument("--out", required=True, metavar="MENDED.gpkg", help="the GeoPackage to write")
     page = commands.add_parser("map", help="a report as one page to look at")
     page.add_argument("report", metavar="REPORT.gpkg")
@@ -108,11 +125,14 @@ def parser() -> argparse.ArgumentParser:
 
 def _prepared(options: argparse.Namespace, progress: Progress) -> Prepared:
     """The register that is asked about: a folder that `prepare` wrote, or layers that are prepared now."""
+    from .reading.options import test_no_option
     from .reading.prepare import prepare
     from .reading.prepared import load
 
     if options.command != "prepare" and os.path.isfile(os.path.join(options.source, "prepared.json")):
-        return load(options.source)
+        prepared = load(options.source)
+        test_no_option(prepared, vars(options), options.source)
+        return prepared
     return prepare(
         options.source,
         options.zones,
@@ -164,6 +184,10 @@ def _prepare(options: argparse.Namespace) -> int:
 
 def _report(options: argparse.Namespace) -> int:
     """`check` and `report`."""
+    if getattr(options, "verify", None):
+        return _verify(options)
+    if options.source is None:
+        raise Refused("P1", "say what to check: the parcels' layer, or the folder that prepare wrote")
     from .out.gpkg import test_name
     from .out.report import report
     from .out.report_formats import answer_of, faults_csv, json_of
@@ -191,9 +215,39 @@ def _report(options: argparse.Namespace) -> int:
     else:
         if not os.path.isfile(os.path.join(options.source, "prepared.json")):
             print(prepared.summary())
+        print(answer.basis.line())
         print(answer.summary())
+    return _ended(options, answer, progress)
+
+
+def _ended(options: argparse.Namespace, answer: Report, progress: Progress) -> int:
+    """Writes the certificate, says what is undecided and what is known; the status by the verdict."""
+    from .out.certificate import write_certificate
+    from .out.known import identities, known_faults
+
+    if getattr(options, "certificate", None):
+        write_certificate(options.certificate, answer, answer.prepared)
+    if answer.basis.advice():
+        print(f"note: {answer.basis.advice()}", file=sys.stderr)
+    status = answer.verdict.status
+    if options.known:
+        known, found = known_faults(options.known, answer.prepared.scale), identities(answer)
+        fresh = sum(one not in known for one in found)
+        print(f"note: {fresh} of {len(found)} faults are new, the others in {options.known}", file=sys.stderr)
+        status = status if fresh else 0
     print(progress.end(), file=sys.stderr)
-    return answer.verdict.status
+    return status
+
+
+def _verify(options: argparse.Namespace) -> int:
+    """`check --verify`: tries the verdict of a certificate again."""
+    from .out.certificate import verify
+
+    differences = verify(options.verify)
+    for text in differences:
+        print(text)
+    print(f"{options.verify}: {'not the same' if differences else 'the same verdict on the same layers'}")
+    return 1 if differences else 0
 
 
 def _overlay(options: argparse.Namespace) -> int:
@@ -249,27 +303,39 @@ def _locate(options: argparse.Namespace) -> int:
 
 
 def _mend(options: argparse.Namespace) -> int:
-    from .faults.mend import mend
+    from .faults.mend import COLUMNS, mend
     from .out.gpkg import test_name
     from .out.report_formats import csv_of, json_of
     from .progress import Progress
 
     test_name(options.out, _read(options))
     prepared = _prepared(options, Progress(shown=True))
-    mended = mend(prepared, options.width)
+    mended = mend(prepared, options.width, options.to)
     mended.save(options.out)
     _lost(prepared)
-    names = ("kind", "number", "area2_mm2", "area_m2", "x", "y")
-    rows = [[row[name] for name in names] for row in mended.closed]
     if options.json:
         print(json_of({"closed": mended.closed, "left": mended.left, "verdict": str(mended.verdict)}))
     elif options.csv:
-        print(csv_of(names, rows), end="")
+        print(csv_of(COLUMNS, [[row[name] for name in COLUMNS] for row in mended.closed]), end="")
     else:
-        for kind, number, doubled, _, x, y in rows:
-            print(f"{kind} of {doubled} / 2 mm2 at ({x:.3f}, {y:.3f}): parcel {number} has it now")
+        for row in mended.closed:
+            print(f"{_place_of(row)}: {_new_owner(row)}")
+        for row in mended.left:
+            print(f"{_place_of(row)}: left, since {row['why']}")
         print(mended.summary())
-    return 0
+    return mended.verdict.status
+
+
+def _place_of(row: Dict[str, Any]) -> str:
+    """What a piece is, how large and where."""
+    least, most = row["area2_mm2"], row["area2_most_mm2"]
+    doubled = least if least == most else f"{least} to {most}"
+    return f"{row['kind']} of {doubled} / 2 mm2 at ({row['x']:.3f}, {row['y']:.3f})"
+
+
+def _new_owner(row: Dict[str, Any]) -> str:
+    """Who has a piece now."""
+    return "no parcel has it now" if row["number"] is None else f"parcel {row['number']} has it now"
 
 
 def _map(options: argparse.Namespace) -> int:

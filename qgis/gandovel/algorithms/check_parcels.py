@@ -18,6 +18,7 @@ from .base import EXACT, Algorithm, Job, Parameters
 COUNTS = {
     "GAP_COUNT": "Number of gaps",
     "OVERLAP_COUNT": "Number of overlaps",
+    "BEYOND_COUNT": "Number of parts beyond the city",
     "OPEN_GAP_COUNT": "Number of gaps that are open to the outside",
     "SLIVER_COUNT": "Number of slivers",
     "SKIPPED_COUNT": "Number of features that were skipped",

@@ -1,16 +1,15 @@
-"""The layer on the grid of whole millimetres: outlines, clipped zones, cleaned loops, simple rings."""
+"""The layer on the grid of whole millimetres: clipped zones, cleaned loops, simple rings."""
 from __future__ import annotations
 
 from typing import Dict, Iterator, List, Optional, Sequence, Tuple
 
 import numpy as np
-from shapely.geometry import LinearRing, MultiLineString, Polygon
-from shapely.ops import polygonize, unary_union
+from shapely.geometry import LinearRing, Polygon
 from shapely.prepared import prep
 
 from ..arrays import Array
 from ..large.tiles import plain_loops
-from ..reading.loops import CITY, ZONES, Loops, loops_from
+from ..reading.loops import ZONES, Loops, loops_from
 from .holes import cut_holes
 
 Row = Tuple[int, int]
@@ -26,19 +25,6 @@ def edges_left(start: Array, end: Array) -> Tuple[Array, Array, Array]:
     net = np.add.reduceat(sign, fresh)
     kept = fresh[net != 0]
     return low[kept], high[kept], net[net != 0]
-
-
-def outlines(loops: Loops, points: Array) -> List[Polygon]:
-    """The parts of the area that loops (of point indices) cover, each without its holes, as polygons of these points.
-
-    Gaps and overlaps inside do not show in it.
-    """
-    low, high, _ = edges_left(loops.corners, loops.corners[loops.nexts()])
-    lines = np.stack([points[low], points[high]], axis=1)
-    faces = list(polygonize(unary_union(MultiLineString(list(lines)))))
-    whole = unary_union([Polygon(face.exterior) for face in faces])
-    parts = getattr(whole, "geoms", [whole])
-    return [Polygon(part.exterior) for part in parts if not part.is_empty]
 
 
 def clipped(zones: Loops, points: Array, city: Sequence[Polygon]) -> Tuple[Loops, Dict[int, int]]:
@@ -84,12 +70,6 @@ def _polygons(loops: Loops, points: Array) -> Iterator[Tuple[int, Polygon]]:
         shell, inner, row = ring, [], int(loops.row[i])
     if shell is not None:
         yield row, Polygon(shell, inner)
-
-
-def city_loops(city: Sequence[Polygon]) -> Loops:
-    """The outer rings of the city's parts, as loops of coordinates; row i is part i."""
-    arrays = [np.asarray(part.exterior.coords)[:-1, :2] for part in city]
-    return loops_from(arrays, [(row, 0, False) for row in range(len(arrays))], 1.0, CITY)
 
 
 def rings_of(loops: Loops, points: Array) -> Tuple[List[Array], List[Row], List[Tuple[Row, str]]]:

@@ -157,7 +157,7 @@ def _turn(before: Corner, here: Corner, onward: Sequence[Corner]) -> Corner:
     best = onward[0]
     for corner in onward:
         way = (corner[0] - here[0], corner[1] - here[1])
-        if _sooner(back, way, (best[0] - here[0], best[1] - here[1])):
+        if sooner(back, way, (best[0] - here[0], best[1] - here[1])):
             best = corner
     return best
 
@@ -170,7 +170,8 @@ def _quarter(back: Corner, way: Corner) -> int:
     return 3 if back[0] * way[0] + back[1] * way[1] > 0 else 1
 
 
-def _sooner(back: Corner, one: Corner, other: Corner) -> bool:
+def sooner(back: Corner, one: Corner, other: Corner) -> bool:
+    """Whether one way comes before another when turning clockwise from the way back: exact."""
     first, second = _quarter(back, one), _quarter(back, other)
     if first != second:
         return first < second

@@ -1,9 +1,9 @@
 """Neighbours' corners put into the borders that they touch.
 
 Coordinates are in millimetres. Two of them that differ by no more than the noise of floating point are one value. A
-corner touches a side where it is off it by no more than the reaches of both together: how far the rounding of its layer
-may have moved a corner, and that of the side's layer the side. Where that is nothing and all three corners lie on the
-grid, the test is exact.
+corner touches a side where it is off it by no more than the greater of their reaches: how far off the rounding of
+the corner, or of the side's ends, may have moved it. Where that is nothing and all three corners lie on the grid, the
+test is exact.
 """
 from __future__ import annotations
 
@@ -115,7 +115,7 @@ def touches(points: Array, start: Array, end: Array, wanted: Array, side_reach: 
     if len(start) > MANY:
         return touches_in_tiles(touches, points, start, end, wanted, side_reach, point_reach)
     reaches = np.broadcast_to(side_reach, len(start)), np.broadcast_to(point_reach, len(points))
-    farthest = float(reaches[0].max() + reaches[1].max())
+    farthest = float(max(reaches[0].max(), reaches[1].max()))
     length = np.abs(points[end] - points[start]).max(axis=1)
     cells = _cells_of(points[wanted], float(length.sum()), len(start), farthest)
     pieces = (length // cells.size).astype(np.int64) + 1
@@ -176,7 +176,7 @@ def _tested(
     d, v = points[b] - points[a], points[point] - points[a]
     square = (d * d).sum(axis=1)
     along = (d * v).sum(axis=1)
-    tolerance = reaches[0][side] + reaches[1][point]
+    tolerance = np.maximum(reaches[0][side], reaches[1][point])
     with np.errstate(divide="ignore", invalid="ignore"):
         off = np.abs(d[:, 0] * v[:, 1] - d[:, 1] * v[:, 0]) / np.sqrt(square)
         exact = whole[a] & whole[b] & whole[point] & (tolerance < LEAST)
@@ -226,7 +226,8 @@ def put_in(
     """Loops (of point indices) with each wanted point put into the sides that it touches, and which these are.
 
     A point that is off a side by more than noise is not put into a polygon of its own, nor into one that it would make
-    invalid; and then into no polygon with the same side, so that none is bent away from its neighbour.
+    invalid, nor into two sides of one; and then into no polygon with the same side, so that none is bent away from its
+    neighbour.
     """
     ends = loops.corners[loops.nexts()]
     found = touches(points, loops.corners, ends, wanted, side_reach, point_reach)
@@ -234,7 +235,8 @@ def put_in(
     off = _off(points, loops.corners[found[:, 0]], ends[found[:, 0]], found[:, 1])
     owners = np.cumsum(~loops.hole) - 1
     far, same = off > noise, _same_sides(loops, ends, found)
-    kept = _all_or_none(same, ~far | ~_among_own(loops, owners, len(points), loop, found[:, 1]))
+    nearest = _nearest(owners[loop], found[:, 1], off)
+    kept = _all_or_none(same, ~far | nearest & ~_among_own(loops, owners, len(points), loop, found[:, 1]))
     result = _inserted(loops, found[kept])
     if far[kept].any():
         broken = _broken(result, points, owners, np.unique(owners[loop[kept & far]]))
@@ -245,12 +247,37 @@ def put_in(
     return result, told
 
 
+def near_pairs(loops: Loops, points: Array, farthest: float) -> Array:
+    """How far off (mm, measured) points of loops lie from sides that they are beside, up to `farthest`: each pair once.
+
+    A side of a polygon of its own is none, nor one that runs where such a side does.
+    """
+    ends = loops.corners[loops.nexts()]
+    found = touches(points, loops.corners, ends, np.unique(loops.corners), farthest, farthest)
+    loop = np.searchsorted(loops.starts, found[:, 0], side="right") - 1
+    same = _same_sides(loops, ends, found)
+    owners = np.cumsum(~loops.hole) - 1
+    kept = np.flatnonzero(_all_or_none(same, ~_among_own(loops, owners, len(points), loop, found[:, 1])))
+    found = found[kept[np.unique(same[kept], return_index=True)[1]]]
+    return _off(points, loops.corners[found[:, 0]], ends[found[:, 0]], found[:, 1])
+
+
 def _same_sides(loops: Loops, ends: Array, found: Array) -> Array:
     """A number for each point that touches a side: the same for the same point at the same side, whichever way it
     runs."""
     a, b = loops.corners[found[:, 0]], ends[found[:, 0]]
     keys = np.column_stack([found[:, 1], np.minimum(a, b), np.maximum(a, b)])
     return np.asarray(np.unique(keys, axis=0, return_inverse=True)[1]).reshape(-1)
+
+
+def _nearest(owner: Array, point: Array, off: Array) -> Array:
+    """Whether each is the nearest to its point of the sides that the point touches of one polygon: beside a corner it
+    touches two."""
+    order = np.lexsort((off, point, owner))
+    fresh = np.concatenate([[True], (np.diff(owner[order]) != 0) | (np.diff(point[order]) != 0)])[: len(order)]
+    found = np.zeros(len(order), dtype=bool)
+    found[order[fresh]] = True
+    return found
 
 
 def _all_or_none(same: Array, kept: Array) -> Array:

@@ -35,7 +35,7 @@ def touches_in_tiles(
     order, bounds = _tiles(points, start, end)
     places = points[wanted]
     of_sides, of_points = np.broadcast_to(side_reach, len(start)), np.broadcast_to(point_reach, len(points))
-    reach = float(of_sides.max() + of_points.max()) + 1.0
+    reach = float(max(of_sides.max(), of_points.max())) + 1.0
     by_x = np.argsort(places[:, 0], kind="stable")
     xs = places[by_x, 0]
 

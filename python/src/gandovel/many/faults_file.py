@@ -14,7 +14,7 @@ from pyproj.exceptions import CRSError
 from shapely.affinity import scale
 from shapely.geometry import Polygon, shape
 
-from ..faults.polygons import faults_of
+from ..faults.polygons import fault_area, faults_of
 from ..out.gpkg import write_layers
 from ..out.styles import STYLES
 from .layers import Cover, Crossing
@@ -27,6 +27,7 @@ FAULT_COLUMNS = (
     "city",
     "layer",
     "area2_mm2",
+    "area2_most_mm2",
     "area_m2",
     "area_how",
     "depth",
@@ -71,9 +72,7 @@ class Faults:
                 {
                     "city": row.name,
                     "layer": role,
-                    "area2_mm2": str(fault.area2),
-                    "area_m2": float(fault.area2) / 2 / SQUARE_METRE,
-                    "area_how": "exact" if isinstance(fault.area2, int) else "exact fraction",
+                    **fault_area(fault.area2),
                     "depth": fault.depth,
                     "records": ",".join(map(str, records)),
                     "numbers": cover.told(records),

@@ -4,17 +4,20 @@ from __future__ import annotations
 from ..reading.units import Unit
 
 REPORT = {
-    "parcels": "Exact, by the program and its edges: status split and gap. Measured by GEOS: status overlap, which "
-    "parcels cover one.",
+    "parcels": "Exact, by the program and its edges: status.",
     "zones": "The zones on the grid of whole millimetres. Measured by GEOS, then rounded: the ends of borders that "
     "were cut to the city.",
-    "gaps": "Exact, by the program's edges: area2_mm2, depth, numbers. area_m2 is area2_mm2, halved and rounded.",
-    "overlaps": "Exact, by the program's edges: area2_mm2, depth; area_m2 is area2_mm2, halved and rounded. "
-    "Measured by GEOS: numbers, the parcels that cover the overlap.",
-    "open_gaps": "Measured by GEOS, then rounded to whole millimetres: notches and channels of the city that the "
-    "parcels make, open to the outside and narrow (--narrow); numbers, the parcels beside them.",
+    "gaps": "Exact, by the program's edges: area2_mm2, depth, numbers. area_m2 is area2_mm2, halved and rounded. "
+    "Twice the area lies between area2_mm2 and area2_most_mm2, which are the same where it is whole.",
+    "overlaps": "Exact, by the edges of the parcels there: area2_mm2, area2_most_mm2, depth, and numbers, the parcels "
+    "that cover the overlap; area_m2 is area2_mm2, halved and rounded.",
+    "beyond": "What parcels cover beyond the city. Exact, by the edges of the parcels there: area2_mm2, "
+    "area2_most_mm2, depth, numbers; area_m2 is area2_mm2, halved and rounded.",
+    "open_gaps": "Notches and channels of the city that the parcels make, open to the outside and narrow (--narrow). "
+    "Exact, by the edges of the outline: area2_mm2, area2_most_mm2. Measured by GEOS: numbers, the parcels beside them.",
     "slivers": "Gaps and overlaps that are nowhere wider than the distance at which a corner touches a border. Exact, "
-    "by the program's edges: area2_mm2, depth. Measured by GEOS: that they are so narrow; numbers of overlaps.",
+    "by the edges of the parcels there: area2_mm2, area2_most_mm2, depth, numbers. Measured by GEOS: that they are so "
+    "narrow.",
     "touched": "Corners that were put into a border that they are off by no more than the rounding of the layer; the "
     "border goes through them now. Measured: distance_mm, closed_m2, the area that this closed.",
     "skipped": "Rows that were left out since their geometry is invalid (--skip-invalid).",

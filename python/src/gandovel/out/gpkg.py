@@ -30,7 +30,8 @@ from ..shapes import shapes_of, wkb_of
 class Table:
     """A layer as it is written: its columns, the WKB of its shapes, their projection, and the box around them.
 
-    `shapes` are its shapes where they are there already.
+    `shapes` are its shapes where they are there already; `kind` is what Fiona calls the layer's shapes where there is
+    none.
     """
 
     columns: pd.DataFrame
@@ -38,6 +39,7 @@ class Table:
     crs: Any
     bounds: Tuple[float, ...]
     shapes: Optional[Sequence[Any]] = None
+    kind: str = "Unknown"
 
     @classmethod
     def of(cls, frame: Union[gpd.GeoDataFrame, "Table"]) -> "Table":
@@ -62,7 +64,9 @@ class Table:
     def geometry(self) -> str:
         """The kind of its shapes as Fiona names it: of polygons and multipolygons the latter."""
         kinds = self.kinds
-        if not kinds or not (kinds <= {POLYGON, MULTIPOLYGON} or len(kinds) == 1):
+        if not kinds:
+            return self.kind
+        if not (kinds <= {POLYGON, MULTIPOLYGON} or len(kinds) == 1):
             return "Unknown"
         has_heights = any(kind_of(head) & HEIGHTS for head in heads_of(self.blobs))
         return ("3D " if has_heights else "") + NAMES[max(kinds) - 1]

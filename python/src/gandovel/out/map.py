@@ -28,7 +28,7 @@ TOLD_UNIT = re.compile(r"Unit \((?:told|of the projection)\): (?P<name>.+?), (?P
 """What a report says of its unit (`notes.unit_text`)."""
 MILLIMETRES = 1000.0
 MOST_MILLIMETRES = 2**31 - 1
-FAULT_LAYERS = ("gaps", "overlaps", "open_gaps", "slivers")
+FAULT_LAYERS = ("gaps", "overlaps", "beyond", "open_gaps", "slivers")
 FAULT_COLUMNS = ("area2_mm2", "area_m2", "numbers", "numbers_how", "layer")
 COLUMNS: Dict[str, Sequence[str]] = {
     "parcels": ("number", "status"),
@@ -49,7 +49,7 @@ def write_map(report: Union[str, Path], out: Union[str, Path]) -> None:
     """Writes the map of a report.
 
     `report` is a GeoPackage that `gandovel report` wrote: its layer `parcels`, and those of `zones`, `gaps`,
-    `overlaps`, `open_gaps`, `slivers`, `touched`, `skipped`, `split` and `split_parts` that are there. `out` is the
+    `overlaps`, `beyond`, `open_gaps`, `slivers`, `touched`, `skipped`, `split` and `split_parts` that are there. `out` is the
     page, written under another name and then renamed. Coordinates are rounded to millimetres for the drawing. Areas of
     faults are the report's exact ones, and those of parts the report's, too; those of parcels and zones are measured by
     the page, and which parcels overlap by GEOS, which the page says. Refused P1 where the report is no such file, P14

@@ -22,7 +22,9 @@ from shapely.ops import unary_union
 from ..arrays import Array
 from ..errors import Refused
 from ..exact.noding import LEAST
-from ..exact.whole_numbers import Exact, texts_of, whole_numbers
+from ..exact.rings import Number
+from ..exact.whole_numbers import texts_of, whole_numbers
+from ..faults.polygons import fault_area
 from ..large.cutting import boxes_of
 from ..large.shares import in_shares
 from ..program.verdicts import LayerFaults, checked, layer_faults, numbers_at, overlay_island, write_island
@@ -35,6 +37,7 @@ from ..reading.units import Unit
 from ..shapes import MULTIPOLYGON, PLAIN, PLAIN_HEAD, POLYGON, array_of, box_of, kind_of, multipolygon_wkb
 from ..shapes import plain_wkb, polygon_wkb, rings_of, shapes_of, wkb_of
 from . import descriptions
+from .basis import Basis
 from .gpkg import Table, test_name, write_layers
 from .notebook import html_of
 from .own_frames import own_frame
@@ -42,6 +45,10 @@ from .styles import STYLES
 from .verdict import Verdict
 
 SHOWN = 8
+AREAS = ("area2_mm2", "area2_most_mm2")
+"""The columns of faults that are whole numbers, and text in a file."""
+LAYERS = {"gap": "gaps", "overlap": "overlaps", "beyond": "beyond"}
+"""The report's layer of each kind of fault."""
 CITIES = {
     "parcels": "the city is what the parcels cover",
     "layer": "the city is the layer that was given",
@@ -54,10 +61,10 @@ CITIES = {
 class Report:
     """What the program says of a register; printed it is its summary, and in a notebook with a small map.
 
-    Frames in the register's projection, the largest area first. `gaps`, `overlaps` (layer, area2_mm2, area_m2,
-    area_how, area, unit, depth, numbers, numbers_how, touched): exact, but for the numbers of overlaps, which GEOS
-    measures. `slivers` are gaps and overlaps that are nowhere wider than what touches (measured), `open_gaps` notches
-    and channels of the city that the parcels make (measured). `split` (number, zones, zone_count, sliver, sliver_how):
+    Frames in the register's projection, the largest area first. `gaps`, `overlaps` (layer, area2_mm2, area2_most_mm2, area_m2,
+    area_how, area, unit, depth, numbers, numbers_how, touched) and `outside`, what parcels cover beyond the city: exact.
+    `slivers` are such that are nowhere wider than what touches (measured), `open_gaps` notches and channels of the city
+    that the parcels make. `split` (number, zones, zone_count, sliver, sliver_how):
     exact, but for sliver. `parts` (number, zone, area2_mm2, area_m2, area_how, share, sliver): which there are is
     exact, and areas are proved where parcels and zones tile (each area2_mm2 within 1, and those of a parcel sum to its
     own), else measured. `pairs`: (number, zone, whether the parcel is split, area2_mm2 or None) of each parcel and zone
@@ -79,14 +86,23 @@ class Report:
     touched: gpd.GeoDataFrame
     skipped: gpd.GeoDataFrame
     prepared: Prepared
+    outside: gpd.GeoDataFrame
     pairs: List[Tuple[str, str, bool, Optional[str]]]
 
     @property
     def verdict(self) -> Verdict:
-        """`tiles`, `does not tile`, or `open`: it tiles the city that it makes, which has open gaps."""
-        if len(self.gaps) or len(self.overlaps) or len(self.slivers):
+        """`tiles`, `does not tile`, `open`: it tiles the city that it makes, which has open gaps; or `undecided`: what
+        are faults can't be told from the layer's noise (`basis.advice`)."""
+        if self.prepared.told.get("precision", {}).get("how") == "undecided" and len(self.faults()):
+            return Verdict.UNDECIDED
+        if any(map(len, (self.gaps, self.overlaps, self.outside, self.slivers))):
             return Verdict.DOES_NOT_TILE
         return Verdict.OPEN if len(self.open_gaps) else Verdict.TILES
+
+    @cached_property
+    def basis(self) -> Basis:
+        """What the verdict stands on."""
+        return Basis.of(self.prepared)
 
     @cached_property
     def split(self) -> gpd.GeoDataFrame:
@@ -128,14 +144,22 @@ class Report:
         return bool((self.prepared.changes.change != TOUCHED).any())
 
     def faults(self) -> gpd.GeoDataFrame:
-        """Gaps, overlaps, open gaps and slivers in one frame, of which `kind` says what they are; the largest first."""
-        kinds = (("gap", self.gaps), ("overlap", self.overlaps), ("open_gap", self.open_gaps), ("sliver", self.slivers))
+        """All faults in one frame, of which `kind` says what they are (`gap`, `overlap`, `beyond`, `open_gap`,
+        `sliver`); the largest first."""
+        kinds = (
+            ("gap", self.gaps),
+            ("overlap", self.overlaps),
+            ("beyond", self.outside),
+            ("open_gap", self.open_gaps),
+            ("sliver", self.slivers),
+        )
         frames = [frame.assign(kind=kind)[["kind", *FAULT_COLUMNS]] for kind, frame in kinds if len(frame)]
         if not frames:
             return gpd.GeoDataFrame(columns=["kind", *FAULT_COLUMNS], geometry="geometry", crs=self.gaps.crs)
         both = pd.concat(frames, ignore_index=True)
         both = both.iloc[_largest_first(both["area2_mm2"])].reset_index(drop=True)
-        both["area2_mm2"] = whole_numbers(both["area2_mm2"].tolist())
+        for name in AREAS:
+            both[name] = whole_numbers(both[name].tolist())
         return gpd.GeoDataFrame(both, geometry="geometry", crs=self.gaps.crs)
 
     def summary(self) -> str:
@@ -146,9 +170,9 @@ class Report:
         texts += [*self.prepared.skipped_told(), _told(self, "parcels")]
         if len(self.open_gaps):
             areas = _areas(self.open_gaps["area2_mm2"], unit)
-            texts.append(f"{_count(len(self.open_gaps), 'gap')} open to the outside ({areas}, measured)")
+            texts.append(f"{_count(len(self.open_gaps), 'gap')} open to the outside ({areas})")
         if self.zones is not None:
-            if (self.gaps["layer"] == "zones").any() or (self.overlaps["layer"] == "zones").any():
+            if any((frame["layer"] == "zones").any() for frame in (self.gaps, self.overlaps, self.outside)):
                 texts.append(f"zones: {_told(self, 'zones')}")
             split = self.split_table.columns
             slivers = split.loc[split["sliver"] == 1, "sliver_how"]
@@ -158,8 +182,8 @@ class Report:
         if len(self.slivers):
             wide = f"no wider than {self.prepared.told['touch']:.2f} mm (measured)"
             texts.append(f"{_count(len(self.slivers), 'sliver')} {wide}, which `gandovel mend` closes")
-        if self.beyond:
-            texts.append(f"{_count(len(self.beyond), 'parcel')} beyond the city (measured), whose zones are not known")
+        if self.beyond and self.zones is not None:
+            texts.append(f"the zones of {_count(len(self.beyond), 'parcel')} beyond the city are not known")
         return "; ".join([*texts, CITIES[self.prepared.told["city"]]])
 
     def save(self, path: Union[str, Path]) -> None:
@@ -171,6 +195,7 @@ class Report:
             ("parcels", self.parcels_table),
             ("gaps", _as_texts(self.gaps)),
             ("overlaps", _as_texts(self.overlaps)),
+            ("beyond", _as_texts(self.outside)),
             ("split", self.split_table),
             ("split_parts", self.parts_table),
         ]
@@ -181,7 +206,8 @@ class Report:
         if self._has_changes:
             layers.append(("changes", self.prepared.changes_table()))
         notes = {**descriptions.REPORT, **descriptions.CHANGES}
-        notes["parcels"] = f"{notes['parcels']} {descriptions.unit_text(self.prepared.unit)}"
+        notes["parcels"] = f"{notes['parcels']} {descriptions.unit_text(self.prepared.unit)} {self.basis.text()}"
+        notes["touched"] = f"{notes['touched']} {self.basis.histogram()}".rstrip()
         write_layers(path, layers, STYLES, notes)
         if self.zones is not None:
             _write_text(path.with_name("split.csv"), self.table())
@@ -216,25 +242,28 @@ def _count(number: int, noun: str) -> str:
 
 def _told(report: Report, layer: str) -> str:
     texts = []
-    for noun, frame in (("gap", report.gaps), ("overlap", report.overlaps)):
+    for noun, frame in (("gap", report.gaps), ("overlap", report.overlaps), ("part", report.outside)):
         doubled = frame.loc[frame["layer"] == layer, "area2_mm2"]
         areas = f" ({_areas(doubled, report.prepared.unit)})" if len(doubled) else ""
-        texts.append(_count(len(doubled), noun) + areas)
+        if noun != "part":
+            texts.append(_count(len(doubled), noun) + areas)
+        elif len(doubled):
+            texts.append(_count(len(doubled), noun) + f" beyond the city{areas}")
     return ", ".join(texts)
 
 
 def _as_texts(faults: gpd.GeoDataFrame) -> gpd.GeoDataFrame:
     """Faults as a file has them: their areas in mm2 are texts, which have no end."""
-    return faults.assign(area2_mm2=texts_of(faults["area2_mm2"].tolist()))
+    return faults.assign(**{name: texts_of(faults[name].tolist()) for name in AREAS})
 
 
-def _areas(doubled: Iterable[Exact], unit: Unit) -> str:
+def _areas(doubled: Iterable[Any], unit: Unit) -> str:
     """The largest of doubled areas (mm2), as they are printed."""
     areas = sorted((Fraction(area2) / 2 for area2 in doubled), reverse=True)
     return ", ".join(area_text(area, unit) for area in areas[:SHOWN]) + (", .." if len(areas) > SHOWN else "")
 
 
-def _largest_first(doubled: Iterable[Exact]) -> List[int]:
+def _largest_first(doubled: Iterable[Any]) -> List[int]:
     """The order of doubled areas (mm2) in which the largest is first: exact."""
     areas = [Fraction(area2) for area2 in doubled]
     return sorted(range(len(areas)), key=lambda at: -areas[at])
@@ -289,7 +318,7 @@ def report(
         raise Refused("P8", f"a least area of {min_area} m2 is none: give square metres, 0 or more")
     prepared = register_of(parcels, zones, **options)
     progress = progress or Progress()
-    faults: Dict[str, List[Dict[str, Any]]] = {"gaps": [], "overlaps": [], "slivers": []}
+    faults: Dict[str, List[Dict[str, Any]]] = {"gaps": [], "overlaps": [], "beyond": [], "slivers": []}
     pairs: Dict[Tuple[int, str], List[Member]] = defaultdict(list)
     at_fault: Dict[int, str] = {}
     beyond: Dict[str, None] = {}
@@ -329,43 +358,38 @@ def _tell(
     """Adds the faults of a layer of island `at` to `faults`, and what they are to the parcels to `at_fault`."""
     width = prepared.told["touch" if role == "parcels" else "touch_of_zones"]
     for fault, concerned in zip(found.faults, found.rows):
-        kind = "gap" if fault.depth < 0 else "overlap"
+        kind = fault.kind
         is_sliver = width >= LEAST and fault.is_narrow(width)
         corners = {corner for loop in (fault.outer, *fault.holes) for corner in loop}
-        faults["slivers" if is_sliver else f"{kind}s"].append(
+        faults["slivers" if is_sliver else LAYERS[kind]].append(
             {
                 "what": kind,
                 "layer": role,
                 "island": at,
                 **_area_columns(fault.area2, prepared.unit),
-                "area_how": "exact" if isinstance(fault.area2, int) else "exact fraction",
                 "depth": fault.depth,
                 "numbers": ",".join(numbers_at(prepared, rows, concerned, role)),
-                "numbers_how": "exact" if kind == "gap" else "measured",
+                "numbers_how": "exact",
                 "touched": len(corners & touched),
                 "geometry": prepared.polygon(fault.outer, fault.holes),
             }
         )
         if role == "parcels" and not is_sliver:
             for row in concerned:
-                if kind == "overlap" or rows.source[row] not in at_fault:
+                if kind != "gap" or rows.source[row] not in at_fault:
                     at_fault[rows.source[row]] = kind
 
 
-def _area_columns(area2: Union[int, Fraction], unit: Unit) -> Dict[str, Any]:
+def _area_columns(area2: Number, unit: Unit) -> Dict[str, Any]:
     """An area as a fault's columns have it: `area` is in the squares of the layer's unit."""
-    return {
-        "area2_mm2": area2,
-        "area_m2": float(area2) / 2 / SQUARE_METRE,
-        "area": float(area2) / 2 / unit.millimetres**2,
-        "unit": f"{unit.symbol}2",
-    }
+    return {**fault_area(area2), "area": float(area2) / 2 / unit.millimetres**2, "unit": f"{unit.symbol}2"}
 
 
 FAULT_COLUMNS = [
     "layer",
     "island",
     "area2_mm2",
+    "area2_most_mm2",
     "area_m2",
     "area_how",
     "area",
@@ -383,11 +407,13 @@ def _open_gaps(prepared: Prepared) -> gpd.GeoDataFrame:
     rows = []
     boxes = [boxes_of(island.parcels.rings) for island in prepared.islands] if prepared.open_gaps else []
     for gap in prepared.open_gaps:
-        shape = Polygon(gap.outer - gap.outer[0], [hole - gap.outer[0] for hole in gap.holes])
+        x0, y0 = (int(value) for value in gap.outer[0])
+        outer, *holes = ([(float(x - x0), float(y - y0)) for x, y in ring] for ring in (gap.outer, *gap.holes))
+        shape = Polygon(outer, holes)
         numbers: Dict[str, None] = {}
         islands = []
         for at, island in enumerate(prepared.islands, 1):
-            beside = _beside(shape, gap.outer, island.parcels, boxes[at - 1])
+            beside = _beside(shape, np.array([x0, y0]), island.parcels, boxes[at - 1])
             numbers.update(dict.fromkeys(numbers_at(prepared, island.parcels, beside, "parcels")))
             islands += [at] * bool(beside)
         rows.append(
@@ -395,7 +421,6 @@ def _open_gaps(prepared: Prepared) -> gpd.GeoDataFrame:
                 "layer": "parcels",
                 "island": min(islands, default=1),
                 **_area_columns(gap.area2, prepared.unit),
-                "area_how": "measured",
                 "depth": -1,
                 "numbers": ",".join(numbers),
                 "numbers_how": "measured",
@@ -408,15 +433,16 @@ def _open_gaps(prepared: Prepared) -> gpd.GeoDataFrame:
 
 def _fault_frame(rows: List[Dict[str, Any]], columns: List[str], prepared: Prepared) -> gpd.GeoDataFrame:
     frame = gpd.GeoDataFrame(rows, columns=columns, geometry="geometry", crs=prepared.crs)
-    frame["area2_mm2"] = whole_numbers([row["area2_mm2"] for row in rows])
+    for name in AREAS:
+        frame[name] = whole_numbers([int(row[name]) for row in rows])
     return frame
 
 
-def _beside(shape: Polygon, corners: Array, rows: Rows, boxes: Array) -> List[int]:
-    """The rows (from 0; their boxes) at most 2 mm from a shape, which is given from its first corner on."""
-    low, high = corners.min(axis=0) - 2, corners.max(axis=0) + 2
-    near = np.flatnonzero((boxes[:, :2] <= high).all(axis=1) & (boxes[:, 2:] >= low).all(axis=1))
-    return [row for row in near.tolist() if Polygon(rows.rings[row] - corners[0]).distance(shape) <= 2]
+def _beside(shape: Polygon, origin: Array, rows: Rows, boxes: Array) -> List[int]:
+    """The rows (from 0; their boxes) at most 2 mm from a shape, which is given from an origin on."""
+    low, high = np.array(shape.bounds).reshape(2, 2) + origin
+    near = np.flatnonzero((boxes[:, :2] <= high + 2).all(axis=1) & (boxes[:, 2:] >= low - 2).all(axis=1))
+    return [row for row in near.tolist() if Polygon(rows.rings[row] - origin).distance(shape) <= 2]
 
 
 def _skipped(prepared: Prepared) -> gpd.GeoDataFrame:
@@ -462,6 +488,7 @@ def _put_together(
         prepared.touched_frame(),
         _skipped(prepared),
         prepared,
+        frames["beyond"],
         [
             (prepared.numbers[row], zone, len(zones_of[row]) > 1, _text_of(summed(pairs[row, zone])))
             for row in sorted(zones_of)

@@ -11,13 +11,15 @@ import numpy as np
 from ..errors import Refused
 from ..program.tool import program_version
 from ..reading.prepared import OUT_ROW, Prepared
-from .report import Report
+from .known import identities
+from .report import AREAS, Report
 
 FAULT_KEYS = (
     "kind",
     "layer",
     "island",
     "area2_mm2",
+    "area2_most_mm2",
     "area_m2",
     "area_how",
     "area",
@@ -35,6 +37,7 @@ def answer_of(report: Report, prepared: Prepared) -> Dict[str, Any]:
     return {
         "program": program_version(),
         "verdict": report.verdict.value,
+        "basis": report.basis.told(),
         "parcels": len(prepared.numbers),
         "rings": sum(row != OUT_ROW for island in prepared.islands for row in island.parcels.source),
         "islands": len(prepared.islands),
@@ -68,6 +71,7 @@ def counts_of(report: Report, prepared: Prepared) -> Dict[str, int]:
     return {
         "gaps": len(report.gaps),
         "overlaps": len(report.overlaps),
+        "beyond": len(report.outside),
         "open_gaps": len(report.open_gaps),
         "slivers": len(report.slivers),
         "touched": prepared.told["touched"],
@@ -78,15 +82,24 @@ def counts_of(report: Report, prepared: Prepared) -> Dict[str, int]:
 
 
 def faults_of(report: Report) -> List[Dict[str, Any]]:
-    """Gaps, overlaps, open gaps and slivers, each as a dictionary; the largest area first."""
+    """Gaps, overlaps, what lies beyond the city, open gaps and slivers, each as a dictionary; the largest area first."""
     frame = report.faults()
     found = []
-    for row, shape in zip(frame[list(FAULT_KEYS)].to_dict("records"), frame.geometry):
+    rows = frame[list(FAULT_KEYS)].to_dict("records")
+    for identity, row, shape in zip(identities(report), rows, frame.geometry):
         inside = shape.representative_point()
         numbers = [number for number in row["numbers"].split(",") if number]
-        area2 = str(row["area2_mm2"])
+        areas = {name: str(row[name]) for name in AREAS}
         found.append(
-            {**row, "area2_mm2": area2, "numbers": numbers, "x": inside.x, "y": inside.y, "bounds": list(shape.bounds)}
+            {
+                "id": identity,
+                **row,
+                **areas,
+                "numbers": numbers,
+                "x": inside.x,
+                "y": inside.y,
+                "bounds": list(shape.bounds),
+            }
         )
     return found
 

@@ -4,7 +4,7 @@ from __future__ import annotations
 from typing import Sequence, Tuple
 
 GREY, BLUE, ORANGE, PINK = "200,205,210,255", "0,114,178,255", "230,159,0,255", "204,30,110,255"
-BROWN, VIOLET, GREEN = "176,120,0,255", "106,63,181,255", "0,122,90,255"
+BROWN, VIOLET, GREEN, RED = "176,120,0,255", "106,63,181,255", "0,122,90,255", "178,34,34,255"
 
 
 def _symbol(name: str, fill: str, line: str, width: float, filled: bool) -> str:
@@ -73,11 +73,13 @@ STYLES = {
             ("split", "250,225,170,255"),
             ("gap", "190,215,240,255"),
             ("overlap", "245,205,225,255"),
+            ("beyond", "240,200,195,255"),
         )
     ),
     "zones": _single(GREY, "60,60,60,255", 0.5, filled=False),
     "gaps": _single(BLUE, BLUE, 0.6),
     "overlaps": _single(PINK, PINK, 0.6),
+    "beyond": _single(RED, RED, 0.6),
     "open_gaps": _single(BROWN, BROWN, 0.6),
     "slivers": _single(VIOLET, VIOLET, 0.6),
     "touched": _marker(GREEN, 2.0),

@@ -13,6 +13,7 @@ class Verdict(str, Enum):
     TILES = "tiles"
     DOES_NOT_TILE = "does not tile"
     OPEN = "open"
+    UNDECIDED = "undecided"
 
     def __bool__(self) -> bool:
         return self.tiles
@@ -31,7 +32,7 @@ class Verdict(str, Enum):
     @property
     def status(self) -> int:
         """The status of `gandovel check` and `gandovel report`."""
-        return {"tiles": 0, "does not tile": 1, "open": 2}[self.value]
+        return {"tiles": 0, "does not tile": 1, "open": 2, "undecided": 2}[self.value]
 
     @property
     def words(self) -> str:
@@ -42,5 +43,6 @@ class Verdict(str, Enum):
 _WORDS = {
     "tiles": "the parcels tile the city: no gap, no overlap",
     "does not tile": "the parcels do not tile the city: there are gaps or overlaps",
+    "undecided": "which faults there are can't be told from the layer's noise",
     "open": "the parcels tile the city that they make, which has gaps that are open to the outside",
 }

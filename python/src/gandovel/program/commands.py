@@ -58,7 +58,7 @@ def check(parcels: Register, zones: Optional[Source] = None, **options: Unpack[O
         a whole number or a fraction, exact but for open gaps), area_m2, area_how, area and unit (in the layer's unit),
         depth (how often too much is covered), numbers (text: of a gap those that border it, exact; of an overlap those
         that cover it, measured by GEOS), numbers_how (`exact` | `measured`), touched (corners of it that were made to
-        touch), geometry.
+        touch), geometry. `.attrs["basis"]` says what it stands on.
 
     Raises
     ------
@@ -75,7 +75,10 @@ def check(parcels: Register, zones: Optional[Source] = None, **options: Unpack[O
     >>> gandovel.check(plots)[["kind", "area2_mm2", "numbers"]].values.tolist()
     [['overlap', 20000000, '7,8']]
     """
-    return report(register_of(parcels, zones, **options)).faults()
+    judged = report(parcels, zones, **options)
+    found = judged.faults()
+    found.attrs["basis"] = judged.basis
+    return found
 
 
 def area(parcels: Register, zones: Optional[Source] = None, **options: Unpack[Options]) -> gpd.GeoDataFrame:

@@ -16,7 +16,7 @@ from ..exact.big_rings import cut_ring
 from ..exact.grid import edges_left
 from ..exact.holes import cut_holes, traced
 from ..exact.noding import points_of, touches
-from ..faults.polygons import contains, point_inside, simple_loops, twice_area
+from ..exact.rings import contains, point_inside, simple_loops, twice_area
 from .layer_files import write_rings
 from .limits import MOST_CORNERS
 from .tool import overlay_pairs
@@ -90,10 +90,11 @@ def _polygons(points: Array, starts: Array, ends: Array) -> List[Tuple[Array, Li
         for a, b, n in zip(low.tolist(), high.tolist(), net.tolist())
     ]
     walks = traced(edges) or []
-    return _nested([loop for walk in walks for loop in simple_loops(walk)])
+    return nested([loop for walk in walks for loop in simple_loops(walk)])
 
 
-def _nested(loops: List[List[Tuple[Any, Any]]]) -> List[Tuple[Array, List[Array]]]:
+def nested(loops: List[List[Tuple[Any, Any]]]) -> List[Tuple[Array, List[Array]]]:
+    """Loops of corners that do not cross, the outer ones counterclockwise, as polygons: outer ring and holes."""
     outers = sorted((loop for loop in loops if twice_area(loop) > 0), key=twice_area)
     inner: List[List[Array]] = [[] for _ in outers]
     for hole in (loop for loop in loops if twice_area(loop) < 0):

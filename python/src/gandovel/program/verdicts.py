@@ -4,16 +4,16 @@ from __future__ import annotations
 import tempfile
 from dataclasses import dataclass, field
 from pathlib import Path
-from typing import Any, Dict, Iterable, List, Sequence, Set, Tuple
+from typing import Dict, FrozenSet, Iterable, List, Sequence, Set
 
 import numpy as np
 from shapely.geometry import Point, Polygon
-from shapely.prepared import prep
 from shapely.validation import explain_validity
 
 from ..arrays import Array
 from ..errors import Refused, place
-from ..faults.polygons import Edge, Fault, faults_of
+from ..faults.polygons import CITY, Edge, Fault, box_of, boxes_touching, conflicts_of, coverage_of, covered_too_often
+from ..faults.polygons import faults_of
 from ..large import is_large
 from ..large.cutting import boxes_of
 from ..large.verdict import check_island, overlay_of_island
@@ -29,8 +29,7 @@ class LayerFaults:
     """What is wrong with a layer of an island: the faults, and for each the rows (from 0) that it concerns.
 
     Of an overlap these are the rows that cover a part of it, of a gap those that border it. `conflicts` are the pairs
-    of rows that overlap, and `beyond` the rows that stand out of the city. Gaps are told by the program's edges; which
-    rows cover what, overlap, or stand out is measured by GEOS.
+    of rows that overlap, and `beyond` the rows that stand out of the city's outer ring. All is exact.
     """
 
     faults: List[Fault] = field(default_factory=list)
@@ -88,61 +87,27 @@ def named(prepared: Prepared, island: Island, refused: Refused, role: str) -> Re
 
 
 def layer_faults(answer: CheckAnswer, city: Array, rows: Rows) -> LayerFaults:
-    """The faults that the program's edges bound, and the rows at them (GEOS says which cover what, on the grid)."""
+    """The faults that the program's edges bound, and the rows at them: by the planar graph of the rings there."""
     if answer.tiles:
         return LayerFaults()
     faults = faults_of(answer.edges)
-    owners = _owners(rows.rings, {edge for fault in faults for edge in fault.edges})
-    cover = _Cover(rows.rings, city[0])
-    told = []
-    for fault in faults:
-        if fault.depth < 0:
-            told.append(sorted({row for edge in fault.edges for row in owners.get(edge, ())}))
-        else:
-            told.append(cover.of(fault))
-    doubled = sorted({row for fault, concerned in zip(faults, told) if fault.depth > 0 for row in concerned})
-    around = prep(Polygon(city - city[0]))
-    beyond = {row for row in doubled if not around.covers(cover.polygon(row))}
-    return LayerFaults(faults, told, cover.overlapping(doubled), beyond)
+    gaps = [fault for fault in faults if fault.depth < 0]
+    owners = _owners(rows.rings, {edge for fault in gaps for edge in fault.edges})
+    told = [sorted({row for edge in fault.edges for row in owners.get(edge, ())}) for fault in gaps]
+    if len(gaps) == len(faults):
+        return LayerFaults(gaps, told)
+    around = np.array([box_of(fault) for fault in faults if fault.depth > 0], dtype=float)
+    near = boxes_touching(boxes_of(rows.rings), around).tolist()
+    coverage = coverage_of(city, rows.rings, near, outside_of(rows, near))
+    over, concerned = covered_too_often(coverage)
+    beyond = {row for cover in coverage.graph.covers for row in cover if cover and CITY not in cover}
+    both = sorted(zip([*gaps, *over], [*told, *concerned]), key=lambda it: (min(it[0].outer), it[0].area2))
+    return LayerFaults([fault for fault, _ in both], [some for _, some in both], conflicts_of(coverage), beyond)
 
 
-class _Cover:
-    """Which rings have a part of their inside in common with something, near the origin and so without rounding."""
-
-    def __init__(self, rings: Sequence[Array], origin: Array) -> None:
-        self.rings, self.origin = rings, origin
-        self.boxes = boxes_of(rings)
-        self.polygons: Dict[int, Polygon] = {}
-
-    def polygon(self, row: int) -> Polygon:
-        if row not in self.polygons:
-            self.polygons[row] = Polygon(self.rings[row] - self.origin)
-        return self.polygons[row]
-
-    def of(self, fault: Fault) -> List[int]:
-        x, y = (int(value) for value in self.origin)
-        outer, *holes = ([(float(a - x), float(b - y)) for a, b in loop] for loop in (fault.outer, *fault.holes))
-        shape, (x0, y0, x1, y1) = Polygon(outer, holes), _box(fault.outer)
-        boxes = self.boxes
-        near = (boxes[:, 0] < x1) & (boxes[:, 1] < y1) & (boxes[:, 2] > x0) & (boxes[:, 3] > y0)
-        return [row for row in np.flatnonzero(near).tolist() if shape.relate(self.polygon(row))[0] == "2"]
-
-    def overlapping(self, rows: List[int]) -> List[Set[int]]:
-        boxes, found = self.boxes[rows], []
-        for at, row in enumerate(rows):
-            box, later = boxes[at], boxes[at + 1 :]
-            near = (later[:, :2] < box[2:]).all(axis=1) & (later[:, 2:] > box[:2]).all(axis=1)
-            found += [
-                {row, rows[at + 1 + it]}
-                for it in np.flatnonzero(near).tolist()
-                if self.polygon(row).relate(self.polygon(rows[at + 1 + it]))[0] == "2"
-            ]
-        return found
-
-
-def _box(corners: Sequence[Tuple[Any, Any]]) -> Tuple[float, float, float, float]:
-    xs, ys = zip(*corners)
-    return float(min(xs)), float(min(ys)), float(max(xs)), float(max(ys))
+def outside_of(rows: Rows, some: Iterable[int]) -> FrozenSet[int]:
+    """Those of some rows that are the area outside the city."""
+    return frozenset(row for row in some if rows.source[row] == OUT_ROW)
 
 
 def _owners(rings: Sequence[Array], edges: Set[Edge]) -> Dict[Edge, Set[int]]:

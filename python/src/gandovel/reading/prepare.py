@@ -20,9 +20,11 @@ from ..exact.big_rings import cut_ring
 from ..exact.city import LEAST_OPEN, OpenGap, open_gaps
 from ..exact.holes import cut_holes
 from ..exact.noding import noise_of, points_of, put_in, values_gathered
+from ..exact.outlines import Outlines, outlines
 from ..program.limits import FARTHEST, MOST_CORNERS, too_large
 from ..progress import Progress
 from ..shapes import bounds_of
+from .digests import source_of
 from .keys import key_of
 from .loops import (
     CITY,
@@ -175,6 +177,13 @@ def prepare(
     prepared.given_keys["parcels"] = key_of(parcels, layers.parcels, layers.number)
     if layers.zones is not None:
         prepared.given_keys["zones"] = key_of(zones, layers.zones, layers.zone)
+    prepared.told["sources"] = [
+        source_of(source, read, role)
+        for source, read, role in zip((parcels, zones, city), frames, ROLES)
+        if source is not None and read is not None
+    ]
+    options = {"number": number, "zone": zone, "frame": frame, "max_move": max_move, "touch": touch, "grid": grid}
+    prepared.told["options"] = {**options, "unit": unit, "skip_invalid": skip_invalid, "narrow": narrow}
     return prepared
 
 
@@ -188,15 +197,14 @@ def _prepared(
 ) -> Prepared:
     work = _taken_apart(layers, *told)
     progress.step("putting neighbours' corners into borders")
-    reaches = work.reaches.of_sides(work.loops), work.reaches.of_points(work.loops, len(work.points))
-    work.put_in(np.unique(work.loops.corners), *reaches)
+    work.put_in(np.unique(work.loops.corners), work.reaches.of_sides, work.reaches.of_points)
     progress.step("finding the outline")
-    outlines, islands_of_zones, gaps = _outlines_and_zones(work, layers, frame, narrow)
+    parts, islands_of_zones, gaps = _outlines_and_zones(work, layers, frame, narrow)
     progress.step("moving corners to the grid")
     _tell_moves(work, max_move, layers.labels)
     _to_grid(work)
     progress.step("cutting holes")
-    islands = _islands(work, outlines, islands_of_zones, frame, layers.labels)
+    islands = _islands(work, parts, islands_of_zones, frame, layers.labels)
     changes = Changes.joined(work.changes)
     facts = {
         "city": "frame" if frame else "parcels" if layers.city is None else "layer",
@@ -204,7 +212,8 @@ def _prepared(
         "touch": work.reaches.touch,
         "touch_of_zones": work.reaches.touch_of("zones"),
         "noise": work.noise,
-        "grid_mm": work.reaches.steps[PARCELS],
+        "grid_mm": work.reaches.layers[PARCELS].grid,
+        "precision": work.reaches.layers[PARCELS].told(),
         **changes.told(),
     }
     prepared = Prepared(
@@ -320,9 +329,9 @@ def _taken_apart(layers: _Layers, grid: Optional[float], touch: Optional[float])
     if np.abs(corners).max() > FARTHEST:
         raise Refused("P9", "the layer lies more than 100,000 km from the origin", role="parcels")
     noise = noise_of(corners)
-    reaches = reaches_of(loops, layers.scale, noise, grid, touch)
     (xs, x_made_one), (ys, y_made_one) = (values_gathered(corners[:, axis], noise) for axis in (0, 1))
     points, loops.corners = points_of(np.column_stack([xs, ys]))
+    reaches = reaches_of(loops, points, layers.scale, noise, grid, touch)
     work = _Work(loops, points, reaches, layers.scale)
     distance = np.hypot(xs - corners[:, 0], ys - corners[:, 1])
     at = np.flatnonzero((x_made_one & (xs != corners[:, 0])) | (y_made_one & (ys != corners[:, 1])))
@@ -336,12 +345,14 @@ def _outlines_and_zones(
     """The city's parts, put among the loops; where zones were cut to them, in which of them a zone's part lies;
     gaps."""
     layer = work.loops.layer
-    parts = on_grid.outlines(work.loops.take(layer == (PARCELS if layers.city is None else CITY)), work.points)
-    gaps = [] if layers.city is not None else open_gaps(parts, narrow, max(LEAST_OPEN, work.reaches.touch))
+    role = PARCELS if layers.city is None else CITY
+    found = outlines(work.loops.take(layer == role), work.points, role == CITY)
+    gaps = [] if role == CITY else open_gaps(found.rings, narrow, max(LEAST_OPEN, work.reaches.touch))
     if frame:
-        parts = [Polygon(on_grid.frame_around(work.points, FRAME_MARGIN))]
+        found = Outlines([], [Polygon(on_grid.frame_around(work.points, FRAME_MARGIN))], [[]])
+    parts = found.parts
     several = [work.loops.take(layer == PARCELS)]
-    coordinates = [Loops(work.points[several[0].corners], *_tags(several[0])), on_grid.city_loops(parts)]
+    coordinates = [Loops(work.points[several[0].corners], *_tags(several[0])), found.loops()]
     islands: Dict[int, int] = {}
     if layers.zones is not None:
         kept = work.loops.take(layer == ZONES)
@@ -361,7 +372,7 @@ def _outlines_and_zones(
         of_parcels[loops.corners[:own]] = True
         others = np.flatnonzero(~of_parcels)
         beside = known[np.isin(known[:, 0], work.points[others, 0])]
-        work.put_in(others[~_among(work.points[others], beside)], noise / 2, noise / 2)
+        work.put_in(others[~_among(work.points[others], beside)], noise, noise)
     return parts, islands, gaps
 
 
@@ -417,9 +428,7 @@ def _to_grid(work: _Work) -> None:
         work.put_in(np.unique(work.loops.corners), 0.0, 0.0)
 
 
-def _islands(
-    work: _Work, outlines: List[Polygon], of_zones: Dict[int, int], frame: bool, labels: Labels
-) -> List[Island]:
+def _islands(work: _Work, parts: List[Polygon], of_zones: Dict[int, int], frame: bool, labels: Labels) -> List[Island]:
     points = work.points.astype(np.int64)
     rings = {}
     for layer in (PARCELS, ZONES, CITY):
@@ -428,13 +437,17 @@ def _islands(
         if fails and layer != ZONES or any(why == "holes" for _, why in fails):
             _refuse_ring(layer, fails[0], labels)
         rings[layer] = made, tags
-    cities = [on_grid.without_straight(ring) for ring in rings[CITY][0]]
+    cities = [on_grid.without_straight(ring) for ring, (_, part) in zip(*rings[CITY]) if part == 0]
     islands = [Island(city, Rows(), Rows() if labels[1] else None) for city in cities]
-    parcel_islands = _where(rings[PARCELS][0], outlines, islands)
+    parcel_islands = _where(rings[PARCELS][0], parts, islands)
     for at, ring, (row, part) in zip(parcel_islands, *rings[PARCELS]):
         _add(islands[at].parcels, ring, row, part)
     for ring, (row, part) in zip(*rings[ZONES]):
         _add(islands[of_zones.get(part, 0)].rows_of_zones(), ring, row, part)
+    for ring, (row, part) in zip(*rings[CITY]):
+        if part > 0:  # what the city's holes leave out is a row of no one
+            for rows in (islands[row].parcels, *([islands[row].rows_of_zones()] if labels[1] else [])):
+                _add(rows, ring, OUT_ROW, 0)
     if frame:
         _add_outside(work, islands[0])
     for island in islands:
@@ -480,11 +493,11 @@ def _refuse_ring(layer: int, fail: Tuple[Tuple[int, int], str], labels: Labels) 
     raise Refused("P9", text, ROLES[layer], number=number)
 
 
-def _where(rings: List[Array], outlines: List[Polygon], islands: List[Island]) -> List[int]:
+def _where(rings: List[Array], parts: List[Polygon], islands: List[Island]) -> List[int]:
     """In which part of the city each ring lies: the one with a point inside the ring, else the nearest."""
     if len(islands) == 1:
         return [0] * len(rings)
-    ready = [(part.bounds, prep(part), part) for part in outlines]
+    ready = [(part.bounds, prep(part), part) for part in parts]
     found = []
     for ring in rings:
         point = Polygon(ring).representative_point()
@@ -505,10 +518,8 @@ def _add_outside(work: _Work, island: Island) -> None:
     for layer, rows in ((PARCELS, island.parcels), (ZONES, island.zones)):
         if rows is None:
             continue
-        parts = on_grid.outlines(work.loops.take(work.loops.layer == layer), work.points)
-        holes = [np.floor(np.asarray(part.exterior.coords)[:-1] + 0.5).astype(np.int64) for part in parts]
-        holes = [hole if on_grid.twice_area(hole) < 0 else hole[::-1] for hole in holes]
-        pieces = cut_holes(island.city, holes)
+        found = outlines(work.loops.take(work.loops.layer == layer), work.points)
+        pieces = cut_holes(island.city, [ring[::-1] for ring in found.rings])
         if pieces is None:
             raise Refused("P12", "no cut is found for the area outside", role=ROLES[layer], number=OUT)
         for piece in pieces:

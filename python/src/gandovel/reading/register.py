@@ -4,6 +4,7 @@ from __future__ import annotations
 import os
 from typing import Optional, TypedDict, Union, Unpack
 
+from .options import test_no_option
 from .prepare import prepare
 from .prepared import Prepared, load
 from .sources import Source
@@ -35,15 +36,13 @@ def register_of(parcels: Register, zones: Optional[Source] = None, **options: Un
 
     Raises
     ------
-    TypeError
-        Options, or zones, for a register that was prepared before: they would change nothing.
     Refused
-        As `prepare` and `load` do.
+        P18: options, or zones, for a register that was prepared before, where they would change nothing. Else as
+        `prepare` and `load` do.
     """
     is_folder = isinstance(parcels, (str, os.PathLike)) and os.path.isfile(os.path.join(parcels, "prepared.json"))
     if not isinstance(parcels, Prepared) and not is_folder:
         return prepare(parcels, zones, **options)
-    named = [*(["zones"] if zones is not None else []), *options]
-    if named:
-        raise TypeError(f"the register is prepared already: give {', '.join(named)} to gandovel.prepare")
-    return parcels if isinstance(parcels, Prepared) else load(str(parcels))
+    prepared = parcels if isinstance(parcels, Prepared) else load(str(parcels))
+    test_no_option(prepared, {"zones": zones, **options}, "the register")
+    return prepared

@@ -65,7 +65,9 @@ def read_layer(source: Union[str, "os.PathLike[str]"], role: str, layer: Optiona
     if not isinstance(frame, gpd.GeoDataFrame):
         raise Refused("P1", f"{source} has no geometry", role=role)
     lost, truths = _beyond_fiona(path, name)
-    return plain(typed(frame, {**types, **truths}), role, lost)
+    result = plain(typed(frame, {**types, **truths}), role, lost)
+    result.attrs["layer"] = name
+    return result
 
 
 def _address(text: str, layer: Optional[str]) -> Tuple[str, Optional[str]]:

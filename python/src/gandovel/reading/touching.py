@@ -1,65 +1,129 @@
-"""How far the rounding of a layer may have moved its corners: the layer's own grid, and the reach that follows."""
+"""How far off a border a corner may lie where it belongs on it: by the grids of a register, its noise, or as told."""
 from __future__ import annotations
 
-from dataclasses import dataclass
-from typing import Optional
+from dataclasses import dataclass, field
+from typing import Any, Dict, List, Optional
 
 import numpy as np
 
 from ..arrays import Array
 from ..errors import Refused
-from ..exact.noding import points_of
-from .loops import ROLES, Loops
+from .loops import PARCELS, ROLES, Loops
+from .near_pairs import Noise, noise_of_pairs
+from .precision import grids_of, steps_of_rows
 
 DIAGONAL = 1.42
 """A corner and the ends of a border are each rounded by half a step in x and y: together by the square's diagonal."""
-COARSEST, COARSEST_OF_FEW = 100.0, 10.0
-"""The coarsest grid, in mm, that is found: a decimetre; a centimetre where a layer has few corners."""
-FEW = 64
-DECIMALS = 9
 FARTHEST_TOLD = 100_000
 
 
 @dataclass
-class Reaches:
-    """How far off, in mm, corners (and sides) of each layer may be where they belong: half of what touches in it.
+class LayerPrecision:
+    """How finely a layer is kept: `how` is `grid`, `noise` (measured), `exact`, `told`, `undecided` or `none`.
 
-    `of_layer` has one for parcels, zones and city; `steps` the steps of the layers' grids, in mm, None for none.
+    `grid` is the step (mm) that most corners fit, `steps` how many corners have which, and `touch` the greatest
+    distance (mm) at which its corners touch.
     """
 
-    of_layer: Array
-    steps: "list[Optional[float]]"
+    how: str = "none"
+    grid: Optional[float] = None
+    steps: "list[tuple[float, int]]" = field(default_factory=list)
+    noise: Optional[Noise] = None
+    touch: float = 0.0
+
+    def told(self) -> Dict[str, Any]:
+        """It as a dictionary that JSON can write."""
+        noise = self.noise
+        return {
+            "how": self.how,
+            "grid_mm": self.grid,
+            "corners_by_grid": [{"grid_mm": step, "corners": count} for step, count in self.steps if count],
+            "noise_mm": None if noise is None else noise.distance,
+            "near_pairs": [] if noise is None else noise.histogram(),
+            "proposed": [] if noise is None else noise.proposed,
+            "measured": ["noise_mm", "near_pairs", "proposed"],
+        }
+
+
+@dataclass
+class Reaches:
+    """How far off, in mm, a corner touches a side: the greater of the corner's distance and the side's.
+
+    `of_points` has a distance for each point, and `of_sides` for each corner's side of the loops; `layers` says how
+    finely parcels, zones and city are kept. `noise` is what floating point may have moved a coordinate by.
+    """
+
+    of_points: Array
+    of_sides: Array
+    layers: List[LayerPrecision]
     noise: float
 
     @property
     def touch(self) -> float:
-        """How far off a border, in mm, a corner of the parcels touches it."""
-        return 2 * float(self.of_layer[0])
+        """How far off a border, in mm, a corner of the parcels touches it at most."""
+        return self.touch_of("parcels")
 
     def touch_of(self, role: str) -> float:
         """As `touch`, of a layer."""
-        return 2 * float(self.of_layer[ROLES.index(role)])
-
-    def of_sides(self, loops: Loops) -> Array:
-        """The reach of each corner's side."""
-        return np.asarray(np.repeat(self.of_layer[loops.layer], np.diff(loops.starts)))
-
-    def of_points(self, loops: Loops, count: int) -> Array:
-        """The reach of each point: of the layers that have it the greatest."""
-        reach = np.zeros(count)
-        layer = np.repeat(loops.layer, np.diff(loops.starts))
-        for at in np.argsort(self.of_layer, kind="stable"):
-            reach[loops.corners[layer == at]] = self.of_layer[at]
-        return reach
+        return max(self.layers[ROLES.index(role)].touch, self.noise)
 
 
-def reaches_of(loops: Loops, scale: float, noise: float, grid: Optional[float], touch: Optional[float]) -> Reaches:
-    """The reaches of layers, whose loops are of coordinates in mm, `scale` mm a unit; `grid` and `touch` if told, in
-    mm."""
+def reaches_of(
+    loops: Loops, points: Array, scale: float, noise: float, grid: Optional[float], touch: Optional[float]
+) -> Reaches:
+    """The reaches of layers, whose loops are of indices of points in mm, `scale` mm a unit; `grid` and `touch` if told,
+    in mm."""
+    reaches = Reaches(np.full(len(points), noise), np.full(len(loops.corners), noise), [], noise)
     layer = np.repeat(loops.layer, np.diff(loops.starts))
-    steps = [grid or step_of(loops.corners[layer == at], scale, noise) for at in range(len(ROLES))]
-    reaches = [(DIAGONAL * (step or 0.0) if touch is None else touch) / 2 for step in steps]
-    return Reaches(np.maximum(reaches, noise / 2), steps, noise)
+    for at in range(len(ROLES)):
+        here = np.flatnonzero(layer == at)
+        some = loops.take(loops.layer == at)
+        if not len(here):
+            reaches.layers.append(LayerPrecision())
+            continue
+        precision, of_corners, of_sides = _layer(some, points, scale, noise, grid, touch, at)
+        np.maximum.at(reaches.of_points, some.corners, of_corners)
+        reaches.of_sides[here] = np.maximum(of_sides, noise)
+        precision.touch = float(max(of_corners.max(), of_sides.max()))
+        reaches.layers.append(precision)
+    return reaches
+
+
+def _layer(
+    loops: Loops,
+    points: Array,
+    scale: float,
+    noise: float,
+    grid: Optional[float],
+    touch: Optional[float],
+    at: int,
+) -> "tuple[LayerPrecision, Array, Array]":
+    """A layer's precision, and the distances of its corners and of their sides."""
+    used, corners = np.unique(loops.corners, return_inverse=True)
+    grids = grids_of(points[used], scale, noise)
+    precision = LayerPrecision("grid", grids.main, grids.counts())
+    everywhere = np.ones(len(loops.corners))
+    if touch is not None or grid is not None:
+        precision.how, precision.grid = "told", grid or grids.main
+        distance = touch if touch is not None else DIAGONAL * (grid or 0.0)
+        return precision, everywhere * distance, everywhere * distance
+    of_loops, of_corners = steps_of_rows(loops, grids, corners.reshape(-1))
+    of_sides = np.maximum(np.repeat(of_loops, np.diff(loops.starts)), 0.0)
+    if grids.main is None:
+        least = _noise(precision, loops, points, noise) if at == PARCELS else 0.0
+        precision.how = precision.how if at == PARCELS else "none"
+        return precision, np.maximum(DIAGONAL * of_corners, least), np.maximum(DIAGONAL * of_sides, least)
+    return precision, DIAGONAL * of_corners, DIAGONAL * of_sides
+
+
+def _noise(precision: LayerPrecision, loops: Loops, points: Array, noise: float) -> float:
+    """What near pairs say of a layer without a grid: the distance within which its corners touch."""
+    precision.noise = found = noise_of_pairs(loops, points, noise)
+    if found.distance is None:
+        precision.how = "undecided"
+        return 0.0
+    precision.how = "noise" if found.distance > 0 else "exact"
+    return found.distance * (1 + 1e-9) + noise if found.distance > 0 else 0.0
 
 
 def test_distances(**told: Optional[float]) -> None:
@@ -68,22 +132,3 @@ def test_distances(**told: Optional[float]) -> None:
         if distance is not None and not (0 <= distance <= FARTHEST_TOLD and (distance > 0 or name != "grid")):
             what, least = name.replace("_", "-"), "above 0 and" if name == "grid" else "from 0"
             raise Refused("P8", f"a {what} of {distance} mm is none: give millimetres, {least} up to {FARTHEST_TOLD:,}")
-
-
-def step_of(corners: Array, scale: float, noise: float) -> Optional[float]:
-    """The step, in mm, of the coarsest decimal grid of the layer's unit that all corners (n, 2) in mm lie on.
-
-    None where there is none. A layer of few corners may lie on a coarse grid by chance.
-    """
-    if not len(corners):
-        return None
-    few = len(corners) < FEW or len(points_of(corners)[0]) < FEW
-    coarsest = (COARSEST_OF_FEW if few else COARSEST) * 1.05
-    first = int(np.ceil(np.log10(scale / coarsest)))
-    for decimals in range(first, first + DECIMALS):
-        step = scale * 10.0**-decimals
-        if noise > step / 20:
-            return None
-        if np.abs(corners - np.round(corners / step) * step).max() <= noise:
-            return float(step)
-    return None

@@ -26,6 +26,8 @@ MILLIMETRES: Dict[str, float] = {
     "yd": 914.4,
 }
 """How many millimetres a unit is that may be told by its name."""
+FORCED = "force:"
+"""In front of a unit that is told against the projection's own."""
 MOST_DISTORTION = 0.01
 TOLD = "say its unit by --unit: m, mm, cm, dm, km, ft, us-ft, yd, in, or how many metres it is"
 
@@ -74,8 +76,12 @@ def unit_of(crs: Any, told: Union[str, float, None], bounds: Sequence[float], ro
             raise Refused("P7", text, role=role)
         system = None
     if told is not None:
-        name, length = _told(told, role)
-        return Unit(name, length, "told", area_factor(system, bounds))
+        forced = str(told).startswith(FORCED)
+        name, length = _told(str(told)[len(FORCED) :] if forced else told, role)
+        factor = area_factor(system, bounds)
+        if system is not None and not forced:
+            _test_told(system, factor, (name, length), role)
+        return Unit(name, length, "told", factor)
     if system is None:
         raise Refused("P7", f"the layer names no projection: {TOLD}", role=role)
     axis = system.axis_info[0]
@@ -87,6 +93,15 @@ def unit_of(crs: Any, told: Union[str, float, None], bounds: Sequence[float], ro
         )
         raise Refused("P7", text, role=role)
     return Unit(str(axis.unit_name), axis.unit_conversion_factor * 1000.0, "projection", factor)
+
+
+def _test_told(system: CRS, factor: float, told: "tuple[str, float]", role: str) -> None:
+    """Refuses (P7) a unit that is told where the projection has another, in which its areas are right."""
+    axis = system.axis_info[0]
+    own = axis.unit_conversion_factor * 1000.0
+    if abs(factor - 1) <= MOST_DISTORTION and abs((told[1] / own) ** 2 - 1) > MOST_DISTORTION:
+        text = f"the projection {system.name} is in {axis.unit_name}, and --unit says {told[0]}"
+        raise Refused("P7", f"{text}: leave --unit out, or say --unit {FORCED}{told[0].split()[0]}", role=role)
 
 
 def _told(told: Union[str, float], role: str) -> "tuple[str, float]":

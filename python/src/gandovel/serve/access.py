@@ -12,7 +12,7 @@ import stat
 import time
 from dataclasses import dataclass
 from pathlib import Path
-from typing import List, Optional, Tuple
+from typing import List, Optional, Protocol, Tuple
 
 from ..errors import Refused
 
@@ -35,6 +35,28 @@ class Client:
 
 LOCAL = Client("local", 2)
 """Whoever asks from this machine, where there is no file of tokens."""
+
+
+class Vouching(Protocol):
+    """What vouches for clients by the tokens that they send."""
+
+    def client(self, token: bytes) -> Optional[Client]:
+        """Whose token it is; None where it is nobody's."""
+
+
+class Clients:
+    """Who is known by the header `Authorization`: by the file of tokens, else by an OpenID issuer."""
+
+    def __init__(self, tokens: Optional["Tokens"], issuer: Optional[Vouching]) -> None:
+        self._tokens, self._issuer = tokens, issuer
+
+    def client(self, authorization: str) -> Optional[Client]:
+        """Whose token the header has; None where it has none that is known."""
+        found = self._tokens.client(authorization) if self._tokens is not None else None
+        if found is not None or self._issuer is None:
+            return found
+        kind, _, token = authorization.partition(" ")
+        return self._issuer.client(token.strip().encode("utf-8", "replace")) if kind.lower() == "bearer" else None
 
 
 class Tokens:

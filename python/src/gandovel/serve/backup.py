@@ -4,11 +4,14 @@ from __future__ import annotations
 import hashlib
 import os
 import shutil
+import subprocess
 from pathlib import Path
 from typing import Dict, List
 
 from ..errors import Refused
+from ..live.answers import start_refused
 from ..live.journals import journal_of
+from ..program.tool import find_tool
 
 JOURNAL, LAYER, SUMS = "register.journal", "layer", "SHA256SUMS"
 
@@ -16,8 +19,9 @@ JOURNAL, LAYER, SUMS = "register.journal", "layer", "SHA256SUMS"
 def back_up(folder: Path, journal: Path, out: Path) -> str:
     """Copies the layer of `folder` and the journal to `out`, whole or not at all; a line that tells what there is.
 
-    The journal may be written to meanwhile: it is copied up to its last whole record, each of which is checked. Refused
-    P1, P14, and as `read_journal` does.
+    The journal may be written to meanwhile: it is copied up to its last whole record, each of which is checked. A
+    session is opened with the copy, and closed: so it can be restored. Refused P1, P14, as `read_journal` does, and as
+    a session's start is, as for the journal of another layer.
     """
     for path in (folder / "prepared.json", journal):
         if not path.is_file():
@@ -29,6 +33,7 @@ def back_up(folder: Path, journal: Path, out: Path) -> str:
         aside.mkdir(parents=True, mode=0o700)
         shutil.copytree(folder, aside / LAYER)
         edits = _copy_records(journal, aside / JOURNAL)
+        _test_fit(aside)
         _write_sums(aside)
         os.replace(aside, out)
     except OSError as fault:
@@ -61,6 +66,22 @@ def _copy_records(path: Path, out: Path) -> int:
         file.flush()
         os.fsync(file.fileno())
     return len(journal.records)
+
+
+def _test_fit(backup: Path) -> None:
+    """Tests that a session opens with the layer and the journal of a backup: with one island of several."""
+    islands = sorted((backup / LAYER).glob("island_*")) or [backup / LAYER]
+    faults: List[Refused] = []
+    for folder in islands:
+        words = [str(folder / "city.shp"), str(folder / "parcels.shp"), "--unit", "mm"]
+        command = [find_tool(), "session", *words, "--journal", str(backup / JOURNAL)]
+        ended = subprocess.run(command, input="close\n", capture_output=True, text=True, errors="replace")
+        if ended.returncode == 0:
+            return
+        told = [line[len("error: ") :] for line in ended.stderr.splitlines() if line.startswith("error: ")]
+        faults.append(start_refused(told[-1] if told else "T2", str(backup / JOURNAL)))
+    others = [fault for fault in faults if fault.code != "another layer"]
+    raise (others or faults)[0]
 
 
 def _sums(folder: Path) -> Dict[str, str]:

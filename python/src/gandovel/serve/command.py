@@ -24,6 +24,16 @@ def add_commands(commands: Any) -> None:
     one.add_argument("--journal", required=True, metavar="FILE", help="the journal; it is made where it is not there")
     one.add_argument("--island", type=int, default=1, metavar="N", help="the island of the register (1)")
     one.add_argument("--crs", metavar="EPSG:CODE", help="the projection of a layer that has none")
+    _add_server(one)
+    two = commands.add_parser("backup", help="copies a register that may be open: layer, journal and digests")
+    two.add_argument("folder", metavar="FOLDER", help="what prepare wrote, or with --check a backup")
+    two.add_argument("--journal", metavar="FILE", help="the register's journal")
+    two.add_argument("--out", metavar="BACKUP", help="the folder to write, which is not there yet")
+    two.add_argument("--check", action="store_true", help="tests a backup, whole and by its digests")
+
+
+def _add_server(one: Any) -> None:
+    """Adds what is of the server, and not of its register."""
     one.add_argument("--host", default="127.0.0.1", help="the address to listen at (127.0.0.1)")
     one.add_argument("--port", type=int, default=8080, help="the port; 0 for any that is free (8080)")
     one.add_argument(
@@ -31,11 +41,19 @@ def add_commands(commands: Any) -> None:
         metavar="FILE",
         help="lines NAME reader|clerk|operator SHA256, mode 0600; " "without it only this machine is answered",
     )
+    one.add_argument("--oidc", metavar="ISSUER", help="the address of an OpenID issuer, whose tokens are taken, too")
+    one.add_argument("--oidc-audience", metavar="NAME", default="gandovel", help="the `aud` of its tokens (gandovel)")
     one.add_argument("--certfile", metavar="FILE", help="the certificate, for TLS")
     one.add_argument("--keyfile", metavar="FILE", help="its key, where that is another file")
     one.add_argument("--url", metavar="URL", help="the server's address as clients know it, behind a proxy")
     one.add_argument(
         "--rate", type=float, default=10_000.0, metavar="N", help="requests a second of one client (10000); 0 for any"
+    )
+    one.add_argument(
+        "--cors",
+        action="append",
+        metavar="ORIGIN",
+        help="pages of this origin may read, as https://maps.example; * for any; may be given again",
     )
     one.add_argument("--clients", type=int, default=1_000, metavar="N", help="connections at once (1000)")
     one.add_argument(
@@ -45,11 +63,6 @@ def add_commands(commands: Any) -> None:
         metavar="N",
         help="versions that can be asked for: so many entries back (10000)",
     )
-    two = commands.add_parser("backup", help="copies a register that may be open: layer, journal and digests")
-    two.add_argument("folder", metavar="FOLDER", help="what prepare wrote, or with --check a backup")
-    two.add_argument("--journal", metavar="FILE", help="the register's journal")
-    two.add_argument("--out", metavar="BACKUP", help="the folder to write, which is not there yet")
-    two.add_argument("--check", action="store_true", help="tests a backup, whole and by its digests")
 
 
 def run_serve(options: argparse.Namespace) -> None:

@@ -23,7 +23,7 @@ if TYPE_CHECKING:
     Id = int
     Whole = int
 else:
-    Id = conint(strict=True, ge=0, lt=10**18)
+    Id = conint(strict=True, ge=0, le=10**18 - 1)
     Whole = conint(strict=True, ge=-FARTHEST, le=FARTHEST)
 Corner = Tuple[Whole, Whole]
 Path = Annotated[List[Corner], Field(min_items=1, max_items=4096)]
@@ -94,7 +94,10 @@ def edit_of(body: bytes, kind: str, why: Optional[str]) -> Tuple[str, str]:
     if kind.partition(";")[0].strip().lower() == "text/plain":
         return _line(body.decode("utf-8", "replace").rstrip("\r\n")), _reason(why or "")
     try:
-        value: Any = parse_obj_as(EditBody, json.loads(body))  # type: ignore[arg-type]
+        given = json.loads(body)
+        if not isinstance(given, dict) or not isinstance(given.get("kind"), str):
+            raise BadRequest("body", "the body is no edit: it is an object, and its kind is a word")
+        value: Any = parse_obj_as(EditBody, given)  # type: ignore[arg-type]
     except (ValueError, RecursionError) as fault:
         raise BadRequest("body", _told(fault)) from None
     return _line(_text(value)), _reason(value.why or why or "")

@@ -58,6 +58,13 @@ class Entry(NamedTuple):
         """The same with the ids that it took out and brought."""
         return Entry(self.number, self.edit, out, new, self.who, self.why, self.time, self.key)
 
+    def from_of(self, parcel: int) -> Tuple[int, ...]:
+        """Which of the parcels that it took out one that it brought comes from: of a moved border one of both."""
+        if not self.edit.startswith("move "):
+            return self.out
+        at = self.new.index(parcel)
+        return self.out[at : at + 1]
+
     def as_json(self) -> Dict[str, Any]:
         """What an answer has of it; the key is its maker's alone."""
         return {
@@ -102,7 +109,7 @@ class Versions:
         self._rings: List[Array] = []
         self._areas: List[int] = []
         self._alive: Dict[int, int] = {}
-        self._found: Dict[int, Array] = {}
+        self._found: Dict[Tuple[int, int], Array] = {}
 
     def begin(self, entries: int, rows: Sequence[Tuple[int, int, int, Array]]) -> None:
         """Puts in the rows (id, born, area2, ring) of the version with so many entries; none before it is kept."""
@@ -141,19 +148,20 @@ class Versions:
         low, high = boxes[:, :2].min(axis=0), boxes[:, 2:].max(axis=0)
         return float(low[0]), float(low[1]), float(high[0]), float(high[1])
 
-    def places(self, entries: int, box: Optional[Box] = None) -> Array:
+    def places(self, entries: int, box: Optional[Box] = None, since: Optional[int] = None) -> Array:
         """Where the rows of a version are, by ascending ids: int64, for `row`. With a box those whose box meets it.
 
-        The version has to be kept (`first` to `last`).
+        With `since` the rows of all versions from that one on. Each has to be kept (`first` to `last`).
         """
-        found = self._found.get(entries)
+        begin = entries if since is None else since
+        found = self._found.get((begin, entries))
         if found is None:
             numbers = self._numbers[: self._count]
-            found = np.flatnonzero((numbers[:, 1] <= entries) & (numbers[:, 2] > entries))
+            found = np.flatnonzero((numbers[:, 1] <= entries) & (numbers[:, 2] > begin))
             found = found[np.argsort(numbers[found, 0])]
             while len(self._found) > 7:
                 self._found.pop(next(iter(self._found)))
-            self._found[entries] = found
+            self._found[begin, entries] = found
         if box is None:
             return found
         boxes = self._boxes[found]
@@ -174,13 +182,14 @@ class Versions:
         number, born, died = self._numbers[place].tolist()
         return Row(number, born, died, self._areas[place], self._rings[place])
 
-    def find(self, parcel: int, entries: int) -> Optional[Row]:
-        """The row of a parcel in a version; None where it has none."""
+    def find(self, parcel: int, entries: int, since: Optional[int] = None) -> Optional[Row]:
+        """The row of a parcel in a version, or with `since` in one from that on; None where it has none."""
         at = self._alive.get(parcel)
         if at is not None and self._numbers[at, 1] <= entries:
             return self.row(at)
-        numbers = self._numbers[: self._count]
-        places = np.flatnonzero((numbers[:, 0] == parcel) & (numbers[:, 1] <= entries) & (numbers[:, 2] > entries))
+        numbers, begin = self._numbers[: self._count], entries if since is None else since
+        is_there = (numbers[:, 0] == parcel) & (numbers[:, 1] <= entries) & (numbers[:, 2] > begin)
+        places = np.flatnonzero(is_there)
         return self.row(int(places[0])) if len(places) else None
 
     def _add(self, parcel: int, born: int, area2: int, ring: Array) -> None:

@@ -32,6 +32,12 @@ class Stale(Fault):
     status_code = 412
 
 
+class Faulty(Fault):
+    """The layer has faults: it is served for reading alone."""
+
+    status_code = 409
+
+
 class Gone(Fault):
     """A version that is not kept any more."""
 

@@ -13,8 +13,8 @@ from starlette.responses import JSONResponse, Response
 from uvicorn.middleware.proxy_headers import ProxyHeadersMiddleware
 
 from ..errors import Refused
-from .access import LOCAL, ROLES, Client, Tokens
-from .faults import as_json
+from .access import LOCAL, ROLES, Client, Clients
+from .faults import Fault, as_json
 from .metrics import Metrics
 from .register import Register
 
@@ -33,10 +33,20 @@ SEND_SECONDS = 30.0
 """Seconds that a client may read nothing of what it is sent."""
 MOST_NAMES = 10_000
 """How many clients' rates are known at once."""
-_OPEN = re.compile(r"/|/health|/page/(map/)?[a-z_.]+")
+_OPEN = re.compile(r"/|/health|/page/(map/)?[a-z_.]{1,40}")
 """What anyone may ask for: the page itself, which has nothing of the register, and whether it serves."""
 _LOCATE = re.compile(rb"x=(-?[0-9]{1,11})&y=(-?[0-9]{1,11})")
 _LOOPBACK = re.compile(r"(localhost|127\.[0-9.]+|\[::1\])(:[0-9]+)?")
+_ALWAYS = [
+    (
+        b"content-security-policy",
+        b"default-src 'self'; img-src 'self' data:; style-src 'self' 'unsafe-inline'; base-uri 'none'; "
+        b"form-action 'self'; frame-ancestors 'none'",
+    ),
+    (b"x-content-type-options", b"nosniff"),
+    (b"referrer-policy", b"no-referrer"),
+]
+_ALWAYS_BY_TLS = [*_ALWAYS, (b"strict-transport-security", b"max-age=31536000")]
 _FORWARDED = frozenset((b"x-forwarded-for", b"x-forwarded-proto"))
 
 
@@ -60,6 +70,29 @@ class Rates:
         return left >= 1
 
 
+class Shares:
+    """How much of the server each client has: requests under way, and streams among them."""
+
+    def __init__(self, clients: int) -> None:
+        self._most = max(1, clients // 2), max(1, clients // 8)
+        self._counts: Tuple[Dict[str, int], Dict[str, int]] = ({}, {})
+
+    def begin(self, name: str, is_stream: bool) -> bool:
+        """Whether one more of this client's is taken; `end` it then."""
+        counts, most = self._counts[is_stream], self._most[is_stream]
+        count = counts.get(name, 0)
+        if count < most:
+            counts[name] = count + 1
+        return count < most
+
+    def end(self, name: str, is_stream: bool) -> None:
+        """One of this client's has ended."""
+        counts = self._counts[is_stream]
+        counts[name] -= 1
+        if not counts[name]:
+            del counts[name]
+
+
 class Gate:
     """The application that uvicorn calls; what passes goes to the one within."""
 
@@ -68,15 +101,20 @@ class Gate:
         app: App,
         edits: Edits,
         register: Register,
-        tokens: Optional[Tokens],
+        clients: Optional[Clients],
         rate: float,
         metrics: Metrics,
         proxies: str,
+        connections: int = 1000,
     ) -> None:
-        """`app` is the application within, `proxies` the addresses of those whose word on their client is taken."""
+        """`app` is the application within, `proxies` the addresses of those whose word on their client is taken.
+
+        `connections` is how many connections the server has: of one client it takes half as many requests, and an eighth as
+        many streams.
+        """
         self._app, self._edits = app, edits
-        self._register, self._tokens, self._metrics = register, tokens, metrics
-        self._rates = Rates(rate)
+        self._register, self._clients, self._metrics = register, clients, metrics
+        self._rates, self._shares = Rates(rate), Shares(connections)
         self._forwarded: Any = ProxyHeadersMiddleware(self._take, proxies)
 
     async def __call__(self, scope: MutableMapping[str, Any], receive: Receive, send: Send) -> None:
@@ -92,6 +130,8 @@ class Gate:
         sent = _Sent(send, scope)
         try:
             await self._answer(scope, receive, sent)
+        except _Enough:
+            pass
         except TimeoutError:
             LOG.warning("a client that read nothing was cut off")
             sent.cut_off()
@@ -106,6 +146,22 @@ class Gate:
         if refusal is not None:
             await _refuse(send, scope, receive, *refusal)
             return
+        client: Optional[Client] = scope["state"]["client"]
+        name = client.name if client else (scope.get("client") or ("",))[0]
+        is_stream = scope["path"] == "/changes"
+        if not self._shares.begin(name, is_stream):
+            text = "too many requests of yours are under way: send the next one when one is answered"
+            await _refuse(send, scope, receive, 429, "share", text)
+            return
+        try:
+            await self._hand_on(scope, receive, send)
+        finally:
+            self._shares.end(name, is_stream)
+
+    async def _hand_on(self, scope: MutableMapping[str, Any], receive: Receive, send: "_Sent") -> None:
+        """Answers a request that may be answered; of HEAD as of GET, without the body."""
+        if scope["method"] == "HEAD":
+            scope = {**scope, "method": "GET"}
         is_get = scope["method"] == "GET"
         if is_get and scope["path"] == "/locate":
             asked = _LOCATE.fullmatch(scope["query_string"])
@@ -122,18 +178,18 @@ class Gate:
 
     def _refusal(self, scope: MutableMapping[str, Any], headers: Dict[bytes, bytes]) -> Optional[Tuple[int, str, str]]:
         """Why a request goes no further: status, code and text; else None, and `scope` has its client."""
-        if self._tokens is None and not _is_local(headers):
+        if self._clients is None and not _is_local(headers):
             return (
                 403,
                 "host",
-                "without a file of tokens the server answers on this machine alone, by the name localhost",
+                "without --tokens or --oidc the server answers on this machine alone, by the name localhost",
             )
         if scope["method"] not in ("GET", "HEAD") and not _is_own(headers):
             return 403, "origin", "a page of another site may not send this"
         is_open = scope["method"] in ("GET", "HEAD") and _is_open(scope["path"])
         client: Optional[Client] = LOCAL
-        if self._tokens is not None:
-            client = self._tokens.client(headers.get(b"authorization", b"").decode("latin-1"))
+        if self._clients is not None:
+            client = self._clients.client(headers.get(b"authorization", b"").decode("latin-1"))
         if not self._rates.takes(client.name if client else (scope.get("client") or ("",))[0]):
             return 429, "rate", "too many requests: send fewer in a second"
         if client is None and not is_open:
@@ -165,6 +221,9 @@ class Gate:
         """The question that is asked most goes past the framework; what is unusual in it does not."""
         try:
             line = await self._register.locate_line(x, y)
+        except Fault as fault:
+            await _refuse(send, scope, receive, fault.status_code, fault.code, fault.text)
+            return
         except Refused as fault:
             await _refuse(send, scope, receive, 503, fault.code, "the register can't answer now: try again")
             return
@@ -174,16 +233,28 @@ class Gate:
         await _plain(send, 200, body, words[1])
 
 
+class _Enough(Exception):
+    """A client that asked for the head alone has it: the body is not waited for."""
+
+
 class _Sent:
-    """Hands on what is sent, within a time; and knows the status."""
+    """Hands on what is sent, within a time, with the headers that all answers have; and knows the status."""
 
     def __init__(self, send: Send, scope: MutableMapping[str, Any]) -> None:
         self._send, self._connection = send, scope.get("gandovel.connection")
+        self._is_head, self._is_tls = scope["method"] == "HEAD", scope["scheme"] == "https"
         self.status = 0
 
     async def __call__(self, message: Message) -> None:
         if message["type"] == "http.response.start":
             self.status = message["status"]
+            message["headers"] = [*message["headers"], *(_ALWAYS_BY_TLS if self._is_tls else _ALWAYS)]
+        elif self._is_head:
+            await self._hand_on({"type": "http.response.body", "body": b""})
+            raise _Enough
+        await self._hand_on(message)
+
+    async def _hand_on(self, message: Message) -> None:
         if self._connection is not None and not self._connection.flow.write_paused:
             await self._send(message)  # it waits for nothing then
             return
@@ -253,7 +324,7 @@ async def _refuse(send: Send, scope: Any, receive: Receive, status: int, code: s
     headers = {"connection": "close"} if status in (413, 500) else {}
     if status == 401:
         headers["www-authenticate"] = 'Bearer realm="register", Basic realm="register"'
-    if status == 429:
+    if status in (429, 503):
         headers["retry-after"] = "1"
     await JSONResponse(as_json(status, code, text), status, headers)(scope, receive, send)
 

@@ -1,22 +1,26 @@
 """The layer of a register: what `gandovel prepare` wrote, its attributes, and which of its parcels a row comes from."""
 from __future__ import annotations
 
+import json
 import math
+import re
 from pathlib import Path
 from typing import Any, Dict, List, Optional, Tuple
 
 import numpy as np
 import pandas as pd
-from pyproj import CRS
-from pyproj.exceptions import CRSError
 
 from ..arrays import Array
 from ..errors import Refused
 from ..reading.prepared import OUT, OUT_ROW, Prepared, load
-from .crs import Projection
+from .crs import Projection, projection_of
 from .entries import Entry, Versions
 
 
+Facts = Dict[str, Any]
+"""The number of a parcel, and the layer's attributes."""
+_DATE = re.compile(r" *[-+]?[0-9]*[-/](0?[1-9]|1[0-2])[-/](0?[1-9]|[12][0-9]|3[01])(?![0-9])|.*:")
+"""What GDAL may take for a date, or a time."""
 TAKEN = {
     "id",
     "number",
@@ -49,7 +53,8 @@ class Layer:
         place = self.prepared.folders(folder)[island - 1]
         self._files = [place / name for name in ("city.shp", "parcels.shp")]
         self.zones = place / "zones.shp" if self.island.zones is not None else None
-        self.projection = Projection(_crs_of(self.prepared, crs), self.prepared.scale)
+        low, high = self.island.city.min(axis=0), self.island.city.max(axis=0)
+        self.projection = Projection(_crs_of(folder, self.prepared, crs), self.prepared.scale, low, high)
         self.count = len(self.island.parcels.rings)
         self._origins: Dict[int, Tuple[int, ...]] = {}
         self._from_row: Dict[int, List[int]] = {}
@@ -58,6 +63,12 @@ class Layer:
         number, zone = self.prepared.number, self.prepared.zone
         self.attributes = attributes_of(self.prepared.parcels, number)
         self.zone_attributes = [] if self.prepared.zones is None else attributes_of(self.prepared.zones, zone)
+        self._none: Facts = dict.fromkeys(self.attributes[0]) if self.attributes else {}
+        self._nothing: Facts = {"number": None, **self._none}
+        self._facts: Dict[int, Facts] = {}
+        self._is_date: Dict[int, bool] = {}
+        self._has_dates = any(_DATE.match(number) for number in self.prepared.numbers)
+        self.kinds, self.zone_kinds = kinds_of(self.attributes), kinds_of(self.zone_attributes)
 
     @property
     def words(self) -> List[str]:
@@ -66,15 +77,26 @@ class Layer:
         return [*map(str, self._files), "--unit", "mm", *zones]
 
     def follow(self, entry: Entry) -> None:
-        """Takes in where the parcels of an entry come from. Of a moved border each new parcel comes from one old."""
+        """Takes in where the parcels of an entry come from, and what is known of them.
+
+        Of a moved border each new parcel is one old one. The halves of a split have nothing of the whole: its number is
+        of none of them, and a value would be there twice. A merged parcel has what its parts agree on.
+        """
         word = entry.edit.split(" ", 1)[0]
         if word not in ("split", "merge", "move"):
             return
-        for at, parcel in enumerate(entry.new):
-            olds = entry.out[at : at + 1] if word == "move" else entry.out
+        for parcel in entry.new:
+            olds = entry.from_of(parcel)
             self._origins[parcel] = tuple(sorted({row for old in olds for row in self.origins(old)}))
+            self._facts[parcel] = self._nothing if word == "split" else self._agreed([self.facts(it) for it in olds])
             for row in self._origins[parcel]:
                 self._from_row.setdefault(row, []).append(parcel)
+
+    @staticmethod
+    def _agreed(several: List[Facts]) -> Facts:
+        """What all have alike, and null for the rest."""
+        first = several[0]
+        return {name: value if all(it[name] == value for it in several) else None for name, value in first.items()}
 
     def origins(self, parcel: int) -> Tuple[int, ...]:
         """The rows of the layer, from 0, that a parcel comes from by the journal; -1 is the area outside."""
@@ -83,13 +105,38 @@ class Layer:
             return known
         return (self.island.parcels.source[parcel - 1],) if 0 < parcel <= self.count else ()
 
+    def facts(self, parcel: int) -> Facts:
+        """What is known of a parcel: its number, and the layer's attributes."""
+        known = self._facts.get(parcel)
+        if known is not None:
+            return known
+        row = self.origins(parcel)[0]
+        return {"number": self.prepared.number_of(row), **(self.attributes[row] if row >= 0 else self._none)}
+
     def properties(self, parcel: int) -> Dict[str, Any]:
-        """Number, `came_from`, and the layer's attributes; where a parcel comes from several, it has no number yet."""
-        rows = self.origins(parcel)
-        numbers = [self.prepared.number_of(row) for row in rows]
-        own = self.attributes[rows[0]] if len(rows) == 1 and rows[0] >= 0 else dict.fromkeys(self._names())
-        first = {"number": numbers[0] if len(numbers) == 1 else None, "came_from": ",".join(numbers)}
-        return {**first, **own}
+        """Number, `came_from`, and the layer's attributes, null where they are not known."""
+        facts = self.facts(parcel)
+        came_from = ",".join(self.prepared.number_of(row) for row in self.origins(parcel))
+        return {"number": facts["number"], "came_from": came_from, **facts}
+
+    @property
+    def most_are_dates(self) -> bool:
+        """Whether fewer than a tenth of the numbers are sure not to be taken for dates."""
+        numbers = self.prepared.numbers
+        return self._has_dates and sum(not _DATE.match(number) for number in numbers) * 10 < len(numbers)
+
+    def date_like(self, parcels: Array) -> Optional[Array]:
+        """Of each parcel whether its number may be taken for a date, or it has none; None where no number may be.
+
+        GDAL, which most programs read GeoJSON by, guesses a type page by page, whatever the schema says.
+        """
+        if not self._has_dates:
+            return None
+        for parcel in parcels.tolist():
+            if parcel not in self._is_date:
+                number = self.facts(parcel)["number"]
+                self._is_date[parcel] = number is None or bool(_DATE.match(number))
+        return np.array([self._is_date[parcel] for parcel in parcels.tolist()], dtype=bool)
 
     def zone_properties(self, record: int) -> Dict[str, Any]:
         """The name of a zone's record, from 1, and its attributes."""
@@ -120,9 +167,6 @@ class Layer:
         source = self.island.zones.source if self.island.zones is not None else []
         return [record for record, row in enumerate(source, 1) if self.prepared.zone_of(row) == name]
 
-    def _names(self) -> List[str]:
-        return list(self.attributes[0]) if self.attributes else []
-
 
 def twice_area(ring: Array) -> int:
     """Twice the area of a ring (k, 2) int64, exact."""
@@ -130,15 +174,12 @@ def twice_area(ring: Array) -> int:
     return sum(a[0] * b[1] - b[0] * a[1] for a, b in zip(corners, corners[1:] + corners[:1]))
 
 
-def _crs_of(prepared: Prepared, given: Optional[str]) -> CRS:
-    if prepared.crs is not None:
-        return CRS.from_user_input(prepared.crs)
-    if given is None:
-        raise Refused("W3", "the layer has no projection: name it by --crs, as in --crs EPSG:25832")
-    try:
-        return CRS.from_user_input(given)
-    except CRSError:
-        raise Refused("W3", f"{given} is no projection that is known: write it as EPSG:25832") from None
+def _crs_of(folder: Path, prepared: Prepared, given: Optional[str]) -> Any:
+    """The projection as the source had it, which `prepared.json` keeps; a file of the folder may have less of it."""
+    told = json.loads((folder / "prepared.json").read_text(encoding="utf-8")).get("crs")
+    if told is None and prepared.crs is not None:
+        told = prepared.crs.to_wkt()
+    return projection_of(told, given)
 
 
 def attributes_of(frame: Any, number: str) -> List[Dict[str, Any]]:
@@ -150,9 +191,34 @@ def attributes_of(frame: Any, number: str) -> List[Dict[str, Any]]:
         while own in shown:
             own += "_"
         shown.append(own)
-    return [dict(zip(shown, map(_plain, row))) for row in zip(*(frame[name].tolist() for name in names))] or [
-        {} for _ in range(len(frame))
-    ]
+    columns = [_column(frame[name]) for name in names]
+    return [dict(zip(shown, row)) for row in zip(*columns)] or [{} for _ in range(len(frame))]
+
+
+def kinds_of(rows: List[Dict[str, Any]]) -> Dict[str, Dict[str, Any]]:
+    """What JSON schema says of each attribute of rows, by what they have: text is text, whatever it looks like."""
+    kinds: Dict[str, set[type]] = {name: set() for name in (rows[0] if rows else ())}
+    for row in rows:
+        for name, value in row.items():
+            kinds[name].add(type(value))
+    return {
+        name: dict(_KINDS.get(frozenset(found - {type(None)}), {"type": "string"})) for name, found in kinds.items()
+    }
+
+
+_KINDS: Dict[frozenset[type], Dict[str, Any]] = {
+    frozenset({bool}): {"type": "boolean"},
+    frozenset({int}): {"type": "integer"},
+    frozenset({float}): {"type": "number"},
+    frozenset({int, float}): {"type": "number"},
+}
+
+
+def _column(values: Any) -> List[Any]:
+    """A column as JSON has it: moments that are all the begin of a day are days."""
+    if pd.api.types.is_datetime64_any_dtype(values) and (values.dropna() == values.dropna().dt.normalize()).all():
+        return [None if value is pd.NaT else value.date().isoformat() for value in values]
+    return [_plain(value) for value in values.tolist()]
 
 
 def _plain(value: Any) -> Any:

@@ -6,6 +6,8 @@ from typing import Any, Dict, List
 
 from jinja2 import Environment
 
+from .openapi import paths_of
+
 HERE = Path(__file__).parent / "page"
 
 _PAGE = """<!doctype html>
@@ -33,6 +35,8 @@ def html_of(title: str, body: Dict[str, Any]) -> str:
     elif "collections" in body:
         rows = [{name: it[name] for name in ("id", "title", "description")} for it in body["collections"]]
     shown = body.get("properties", {key: it for key, it in body.items() if isinstance(it, (str, int, float))})
+    if not isinstance(shown, dict) or "$schema" in body:
+        shown = {name: it.get("title", "") for name, it in body.get("properties", {}).items()}
     if "conformsTo" in body:
         shown = dict(enumerate(body["conformsTo"], 1))
     facts = [(name, value) for name, value in shown.items() if name != "description"]
@@ -46,11 +50,7 @@ def html_of(title: str, body: Dict[str, Any]) -> str:
 
 def openapi_html(document: Dict[str, Any]) -> str:
     """The definition of the API as a table."""
-    rows = [
-        {"method": method.upper(), "address": path, "what": it.get("summary", ""), "more": it.get("description", "")}
-        for path, methods in document["paths"].items()
-        for method, it in methods.items()
-    ]
+    rows = paths_of(document)
     return _TEMPLATE.render(
         title=document["info"]["title"],
         text=document["info"]["description"],

@@ -21,7 +21,7 @@ from ..live.journals import JournalRecord
 from .entries import Asked, Entry, Versions
 from .faults import KeyReused, NotServing, Stale, Unknown
 from .layer import Layer
-from .lines import Lines
+from .past import Past
 from .program import Program, Room
 from .tail import Tail
 from .turns import Turns
@@ -110,6 +110,8 @@ class Register:
         self.layer, self.journal, self._keep = layer, journal, keep
         self.entries: List[Entry] = []
         self.versions = Versions()
+        self.faults: Optional[List[Any]] = None
+        """The faults of a layer that does not tile (`FaultyRegister`)."""
         self.state, self.restarts, self.trouble = "starting", 0, ""
         self.acknowledged = 0
         self._synchronised = 0
@@ -120,7 +122,7 @@ class Register:
         self._follower: Optional[Program] = None
         self._turns = Turns()
         self._keys: Dict[Tuple[str, str], Entry] = {}
-        self._by_parcel: Dict[int, List[int]] = {}
+        self.past = Past()
         self._flying: Dict[Tuple[str, str], Tuple[str, "asyncio.Task[Entry]"]] = {}
         self._tasks: Set["asyncio.Task[Any]"] = set()
         self._fates: Set[Fate] = set()
@@ -191,7 +193,8 @@ class Register:
         records = await self._read_journal(self._session.replayed)
         if self._follower is None or self._follower.operator.has_ended:
             self._follower = await Program.start(words)
-            await self._begin(records if self._is_new else records[: len(self.entries)])
+            early = max(0, len(records) - self._keep) if self._is_new else len(self.entries)
+            await self._begin(records[:early])
         self._take_in(records)
         await self._follow()
         for lines in (self._session.operator, *self._session.desks, self._follower.operator):
@@ -221,11 +224,19 @@ class Register:
         return list(tail.records)
 
     async def _begin(self, records: Sequence[JournalRecord]) -> None:
-        """Makes the edits by the follower, and takes its rows as the version that they lead to."""
+        """Makes the edits by a new follower. At the start its rows are the first version that is kept.
+
+        Those that come after are followed as all are, so that their versions are kept over a start. Where the follower
+        alone ended, the rows are known; it has to come to the same.
+        """
         assert self._follower is not None
         lines, first = self._follower.operator, self.layer.count
         answers = [lines.put(record.edit.encode()) for record in records]
         accepted = [accepted_of((await answer)[0].decode()) for answer in answers]
+        if not self._is_new:
+            if any((made.out, made.new) != (it.out, it.new) for made, it in zip(accepted, self.entries)):
+                raise BadAnswer("T3", "the journal's edits came out otherwise")
+            return
         born: Dict[int, int] = {parcel: 0 for parcel in range(1, first + 1)}
         for made in accepted:
             for parcel in made.out:
@@ -233,9 +244,8 @@ class Register:
             born.update(dict.fromkeys(made.new, made.number))
         rows = await _rows_of(self._asked_rows(list(born)))
         self.versions.begin(len(records), [(it[0], born[it[0]], *it[1:]) for it in rows])
-        if self._is_new:
-            for record, made in zip(records, accepted):
-                self._enter(Entry.of(record, made.out, made.new))
+        for record, made in zip(records, accepted):
+            self._enter(Entry.of(record, made.out, made.new))
         self._is_new = False
 
     def _take_in(self, records: Sequence[JournalRecord]) -> None:
@@ -492,11 +502,10 @@ class Register:
 
     def _enter(self, entry: Entry) -> None:
         self.entries.append(entry)
+        self.past.add(entry)
         self.layer.follow(entry)
         if entry.key is not None and entry.who is not None:
             self._keys[entry.who, entry.key] = entry
-        for parcel in {*entry.out, *entry.new}:
-            self._by_parcel.setdefault(parcel, []).append(entry.number)
 
     def _tell(self) -> None:
         news, self._news = self._news, asyncio.Event()
@@ -597,10 +606,6 @@ class Register:
         lines = [line.decode() for line in await self._session.operator.report(f"export {base}".encode())]
         test_error(lines[-1] if lines else "")
         return count_of("\n".join(lines), "exported")
-
-    def history(self, parcel: int) -> List[Entry]:
-        """The published entries that took the parcel out or brought it, in order."""
-        return [self.entries[number - 1] for number in self._by_parcel.get(parcel, [])]
 
     def health(self) -> Dict[str, Any]:
         """State, entries, and how often the session was started anew."""

@@ -16,15 +16,21 @@ from pathlib import Path
 from typing import Any, ClassVar, Dict, Optional
 
 import uvicorn
+from starlette.middleware.cors import CORSMiddleware
 from uvicorn.protocols.http.httptools_impl import HttpToolsProtocol
 
 from ..errors import Refused
-from .access import Tokens
-from .app import Site, answered_edit, application
+from .access import Clients, Tokens
+from .app import application
+from .door import Door, context_of
+from .faulty import FaultyRegister, is_of_layer
 from .gate import Gate
 from .layer import Layer
 from .metrics import Metrics
 from .register import Register
+from .representations import Representations
+from .routes.edits import answered_edit
+from .site import Site
 
 LOG = logging.getLogger("gandovel.serve")
 HEAD_SECONDS = 10.0
@@ -37,6 +43,8 @@ CLOSE_SECONDS = 1.0
 """Seconds that a client that was sent all has to answer the end of TLS then."""
 BEYOND = 4
 """Connections beyond this many times the limit are closed without an answer."""
+_CORS_TAKEN = ("Authorization", "If-None-Match")
+_CORS_SHOWN = ("Gandovel-Entries", "Content-Crs", "ETag", "Link")
 
 
 class Connection(HttpToolsProtocol):  # type: ignore[misc]
@@ -48,13 +56,17 @@ class Connection(HttpToolsProtocol):  # type: ignore[misc]
 
     _silent: ClassVar[Dict["Connection", float]] = {}
     """Those that a request's head is awaited of, and since when, the oldest first."""
+    _idle: ClassVar[Dict["Connection", None]] = {}
+    """Those whose last request was answered, the one that is idle for longest first."""
     _watch: ClassVar[Optional[asyncio.TimerHandle]] = None
     """It looks for those that are late, where there are any."""
 
     def connection_made(self, transport: Any) -> None:
         super().connection_made(transport)
-        if self.limit_concurrency and len(self.connections) >= self.limit_concurrency and self._silent:
-            next(iter(self._silent))._too_slow()
+        if self.limit_concurrency and len(self.connections) >= self.limit_concurrency:
+            for quiet in self._idle or self._silent:
+                quiet._too_slow()
+                break
         if self.limit_concurrency and len(self.connections) > BEYOND * self.limit_concurrency:
             transport.abort()
             return
@@ -62,12 +74,19 @@ class Connection(HttpToolsProtocol):  # type: ignore[misc]
 
     def connection_lost(self, exc: Optional[Exception]) -> None:
         self._silent.pop(self, None)
+        self._idle.pop(self, None)
         super().connection_lost(exc)
 
     def data_received(self, data: bytes) -> None:
+        self._idle.pop(self, None)
         super().data_received(data)
         if self.cycle is None or self.cycle.response_complete:  # the begin of a head
             self._wait()
+
+    def on_response_complete(self) -> None:
+        super().on_response_complete()
+        if not self.transport.is_closing() and not self.pipeline and self.cycle.response_complete:
+            self._idle[self] = None
 
     def on_headers_complete(self) -> None:
         self._silent.pop(self, None)
@@ -99,6 +118,7 @@ class Connection(HttpToolsProtocol):  # type: ignore[misc]
 
     def _too_slow(self) -> None:
         self._silent.pop(self, None)
+        self._idle.pop(self, None)
         self.connections.discard(self)  # it counts no more, though it is closed a moment later
         self.transport.abort()
 
@@ -106,14 +126,31 @@ class Connection(HttpToolsProtocol):  # type: ignore[misc]
 class Server(uvicorn.Server):  # type: ignore[misc]
     """uvicorn's server, that tells the register at once when it has to end, and says where it listens."""
 
-    def __init__(self, config: uvicorn.Config, register: Register, address: str) -> None:
+    def __init__(
+        self, config: uvicorn.Config, register: Register, address: str, security: Optional[ssl.SSLContext]
+    ) -> None:
         super().__init__(config)
-        self._register, self._address = register, address
+        self._register, self._address, self._security = register, address, security
+        self._door: Optional["asyncio.Task[None]"] = None
         self._ending: Optional["asyncio.Task[None]"] = None
 
     async def startup(self, sockets: Any = None) -> None:
-        await super().startup(sockets=sockets)
-        print(f"serving {len(self._register.entries)} entries at {self._address}", flush=True)
+        if self._security is None:
+            await super().startup(sockets=sockets)
+        else:
+            await super().startup(sockets=[])
+            made = partial(Connection, config=self.config, server_state=self.server_state)
+            sockets[0].setblocking(False)
+            sockets[0].listen(self.config.backlog)
+            self._door = asyncio.get_running_loop().create_task(Door(sockets[0], self._security, made).run())
+        faults = self._register.faults
+        what = f"{len(self._register.entries)} entries" if faults is None else f"a layer with {len(faults)} faults"
+        print(f"serving {what} at {self._address}", flush=True)
+
+    async def shutdown(self, sockets: Any = None) -> None:
+        if self._door is not None:
+            self._door.cancel()
+        await super().shutdown(sockets=sockets)
 
     def handle_exit(self, sig: Any, frame: Any) -> None:
         super().handle_exit(sig, frame)
@@ -134,15 +171,14 @@ class Server(uvicorn.Server):  # type: ignore[misc]
 
 
 def serve(options: argparse.Namespace) -> None:
-    """Serves a register until a signal. Refused W1 to W4, P1, and as a session's start is."""
+    """Serves a register until a signal. Refused W1 to W5, W7, P1, and as a session's start is."""
     logging.basicConfig(stream=sys.stderr, format="%(asctime)s %(message)s", level=logging.WARNING)
     _raise_limit(options.clients)
-    tokens = None if options.tokens is None else Tokens(Path(options.tokens))
-    if tokens is None and not _is_loopback(options.host):
-        raise Refused(
-            "W4", f"without --tokens only this machine is answered: leave out --host {options.host}, or give --tokens"
-        )
-    _test_certificate(options.certfile, options.keyfile)
+    clients = _clients(options)
+    if clients is None and not _is_loopback(options.host):
+        text = f"only this machine is answered: leave out --host {options.host}, or give --tokens or --oidc"
+        raise Refused("W4", f"without --tokens or --oidc {text}")
+    security = _security(options.certfile, options.keyfile)
     folder, journal = Path(options.folder), Path(options.journal).absolute()
     if folder.resolve() in journal.resolve().parents:
         raise Refused(
@@ -153,22 +189,53 @@ def serve(options: argparse.Namespace) -> None:
     if islands > 1:
         text = f"island {options.island} of {islands} is served, with {layer.count} parcels: name another by --island"
         print(f"note: {text}", file=sys.stderr, flush=True)
+    if layer.most_are_dates:
+        text = "most numbers look like dates to GDAL and QGIS: set OGR_GEOJSON_DATE_AS_STRING=YES where they run"
+        print(f"note: {text}", file=sys.stderr, flush=True)
     listener = _listener(options.host, options.port)
     try:
-        _loop()(_run(options, Register(layer, journal, options.keep), tokens, listener))
+        _loop()(_run(options, Register(layer, journal, options.keep), clients, listener, security))
     finally:
         listener.close()
 
 
+async def _started(register: Register, island: int) -> Register:
+    """The register once it is open; where its parcels do not tile, and there is no journal yet, for reading alone.
+
+    Raises as `Register.start` does.
+    """
+    was_there = register.journal.exists()
+    try:
+        await register.start()
+        return register
+    except Refused as fault:
+        if was_there or not is_of_layer(fault):
+            raise
+        register.journal.unlink(missing_ok=True)  # the session made it before it read the parcels
+        faulty = FaultyRegister(register.layer, register.journal, island)
+        assert faulty.faults is not None
+        text = f"the parcels have {len(faulty.faults)} faults ({fault.code} {fault.text}): they are served for reading"
+        print(f"note: {text}, and no edit is taken", file=sys.stderr, flush=True)
+    await faulty.start()
+    return faulty
+
+
 async def _run(
-    options: argparse.Namespace, register: Register, tokens: Optional[Tokens], listener: socket.socket
+    options: argparse.Namespace,
+    register: Register,
+    clients: Optional[Clients],
+    listener: socket.socket,
+    security: Optional[ssl.SSLContext],
 ) -> None:
-    await register.start()
+    register = await _started(register, options.island)
     gc.freeze()  # what is there now stays: no search for what is lost goes through it
     metrics = Metrics(register)
     site, proxies = Site(register, metrics, options.url), os.environ.get("FORWARDED_ALLOW_IPS", "127.0.0.1")
     edits = partial(answered_edit, site)
-    app = Gate(application(site), edits, register, tokens, options.rate, metrics, proxies)
+    within = Representations(application(site, options.oidc))
+    app: Any = Gate(within, edits, register, clients, options.rate, metrics, proxies, options.clients)
+    if options.cors:
+        app = CORSMiddleware(app, options.cors, ("GET", "HEAD"), _CORS_TAKEN, expose_headers=_CORS_SHOWN, max_age=600)
     config = uvicorn.Config(
         app,
         http=Connection,
@@ -181,16 +248,28 @@ async def _run(
         timeout_keep_alive=30,
         backlog=4096,
         limit_concurrency=options.clients,
-        ssl_certfile=options.certfile,
-        ssl_keyfile=options.keyfile,
     )
-    scheme = "https" if options.certfile else "http"
+    scheme = "http" if security is None else "https"
     host, port = listener.getsockname()[:2]
-    server = Server(config, register, f"{scheme}://{f'[{host}]' if ':' in host else host}:{port}/")
+    server = Server(config, register, f"{scheme}://{f'[{host}]' if ':' in host else host}:{port}/", security)
     try:
         await server.serve(sockets=[listener])
     finally:
         await server.ended()
+
+
+def _clients(options: argparse.Namespace) -> Optional[Clients]:
+    """Who is known; None where no token is asked for. Refused W1, W5, W7."""
+    if options.tokens is None and options.oidc is None:
+        return None
+    tokens, issuer = None if options.tokens is None else Tokens(Path(options.tokens)), None
+    if options.oidc is not None:
+        try:
+            from .oidc import Issuer
+        except ModuleNotFoundError as fault:
+            raise Refused("W5", f"{fault.name} is not there: install python3-authlib for --oidc") from None
+        issuer = Issuer(options.oidc, options.oidc_audience)
+    return Clients(tokens, issuer)
 
 
 def _loop() -> Any:
@@ -227,11 +306,12 @@ def _is_loopback(host: str) -> bool:
         return False
 
 
-def _test_certificate(certificate: Optional[str], key: Optional[str]) -> None:
+def _security(certificate: Optional[str], key: Optional[str]) -> Optional[ssl.SSLContext]:
+    """What TLS is done by; None without a certificate. Refused W4."""
     if certificate is None:
-        return
+        return None
     try:
-        ssl.create_default_context(ssl.Purpose.CLIENT_AUTH).load_cert_chain(certificate, key)
+        return context_of(certificate, key)
     except (OSError, ssl.SSLError) as fault:
         raise Refused("W4", f"the certificate, or its key, can't be read: {fault}") from None
 

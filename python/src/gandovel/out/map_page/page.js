@@ -4,7 +4,7 @@
   const byId = (id) => document.getElementById(id);
   const field = byId("map"), tip = byId("tip"), details = byId("details"), found = byId("found"), list = byId("list");
   const SHOWN = 100, FEW = 12;
-  const FAULTS = { gaps: "gap", overlaps: "overlap", open_gaps: "open gap", slivers: "sliver" };
+  const FAULTS = { gaps: "gap", overlaps: "overlap", beyond: "part beyond the city", open_gaps: "open gap", slivers: "sliver" };
   const LAYERS = [
     { name: "parcels", draw: "areas", look: (it) => (it.properties.zones ? "split" : "parcel"), text: "parcel" },
     { name: "zones", draw: "borders", look: "zone", text: "zone's border" },
@@ -18,6 +18,7 @@
     skipped: { fill: "skipped", line: "skipped", width: 2 }, gaps: { fill: "gap", line: "gap", width: 2 },
     open_gaps: { fill: "open-gap", line: "open-gap", width: 2 },
     overlaps: { fill: "overlap", line: "overlap", width: 2 },
+    beyond: { fill: "beyond", line: "beyond", width: 2 },
     slivers: { fill: "sliver", line: "sliver", width: 2 },
   };
 

@@ -2,6 +2,8 @@
 /** The page for clerks: the parcels, live; one of them, its history and zones; and edits, checked before they are sent. */
 const $ = (id) => document.getElementById(id);
 const NEAR = 14;
+/** How many numbers are drawn at most, and how many pixels a parcel is wide for that. */
+const MOST_NUMBERS = 400, WIDE = 36;
 const HINTS = {
   split: "Click the corner where the cut begins, then its corners, and the corner where it ends.",
   merge: "Click the neighbour that becomes one with this parcel.",
@@ -65,6 +67,7 @@ const register = {
     const parcels = await Promise.all(answers.filter((it) => it.ok).map((it) => it.json()));
     for (const id of entry.out) register.parcels.delete(id);
     for (const parcel of parcels) register.parcels.set(parcel.id, parcel);
+    if (register.draft && register.draft.at === entry.number - 1 && !drafts.isConcerned(register.draft, entry)) register.draft.at = entry.number;
     drawing.change(entry.out, parcels);
     register.entries = entry.number;
     register.tell(entry);
@@ -83,11 +86,11 @@ const register = {
     drawing.mark(id);
     const parcel = register.parcels.get(id), box = $("parcel");
     const zonesOfIt = parcel ? register.ask(`/parcels/${id}/zones`) : null;
-    const [history, zones] = await Promise.all([register.ask(`/parcels/${id}/history`), zonesOfIt]);
+    const [lineage, zones] = await Promise.all([register.ask(`/parcels/${id}/lineage`), zonesOfIt]);
     if (register.chosen !== id) return;
-    box.replaceChildren(element("h2", parcel ? `Parcel ${parcel.number ?? `without a number (id ${id})`}` : `Parcel ${id} is gone`));
+    box.replaceChildren(element("h2", parcel ? `Parcel ${named(parcel)}` : `Parcel ${id} is gone`));
     if (parcel) box.append(facts(parcel, zones && zones.ok ? (await zones.json()).zones : null));
-    if (history.ok) box.append(element("h2", "History"), list((await history.json()).history));
+    if (lineage.ok) box.append(element("h2", "History"), ...tree((await lineage.json()).parcels, id));
   },
 
   find(number) {
@@ -113,14 +116,32 @@ function facts(parcel, zones) {
   return told;
 }
 
-function list(history) {
-  if (!history.length) return element("p", "It is as it was read.");
-  const told = document.createElement("ol");
-  for (const it of history) {
-    const why = it.why ? `: ${it.why}` : "";
-    told.append(element("li", `entry ${it.number}, ${it.edit.split(" ")[0]}, ${it.who || "another program"}, ${it.time || ""}${why}`));
-  }
-  return told;
+/** The number of a parcel; where it has none, of what it comes from. */
+const named = ({ id, number, came_from: from }) => number ?? `without a number, from ${from} (id ${id})`;
+
+const told = (it) => `entry ${it.number}, ${it.edit.split(" ")[0]}, ${it.who || "another program"}, ${it.time || ""}${it.why ? `: ${it.why}` : ""}`;
+
+/** The lineage of a parcel: what it was made of, step by step back to the layer, and what became of it. */
+function tree(parcels, id) {
+  const known = new Map(parcels.map((it) => [it.id, it]));
+  const steps = (it, entry, next) => {
+    const found = document.createElement("ul");
+    if (!it[entry]) return found;
+    const step = element("li", told(it[entry])), parts = document.createElement("ul");
+    for (const other of it[next].map((at) => known.get(at)).filter(Boolean)) {
+      const part = element("li", `parcel ${named(other)}`);
+      part.append(steps(other, entry, next));
+      parts.append(part);
+    }
+    step.append(parts);
+    found.append(step);
+    return found;
+  };
+  const it = known.get(id), shown = [];
+  if (!it.made_by && !it.taken_by) return [element("p", "It is as it was read.")];
+  if (it.made_by) shown.push(element("p", "Made by:"), steps(it, "made_by", "replaces"));
+  if (it.taken_by) shown.push(element("p", "Taken out by:"), steps(it, "taken_by", "replaced_by"));
+  return shown;
 }
 
 /** The map (`ParcelMap`, as a report's): metres from the south-western corner of all parcels, so that millimetres stay. */
@@ -136,6 +157,38 @@ const drawing = {
     drawing.map.keyboard.enable();
     L.control.zoom().addTo(drawing.map);
     drawing.draft = L.layerGroup().addTo(drawing.map);
+    drawing.texts = L.layerGroup().addTo(drawing.map);
+    drawing.map.on("moveend", drawing.numbers);
+  },
+
+  /** Draws the numbers of the parcels that are seen, where there is room for them. */
+  numbers() {
+    drawing.texts.clearLayers();
+    const [x0, y1] = drawing.place(drawing.map.getBounds().getNorthWest()), [x1, y0] = drawing.place(drawing.map.getBounds().getSouthEast());
+    const wide = WIDE * 1000 / drawing.parcels.scale(), found = [];
+    for (const parcel of register.parcels.values()) {
+      if (parcel.number === null) continue;
+      parcel.inside ??= drawing.inside(parcel.ring_mm);
+      const [x, y, width] = parcel.inside;
+      if (width >= wide && x >= x0 && x <= x1 && y >= y0 && y <= y1) found.push(parcel);
+      if (found.length > MOST_NUMBERS) return;
+    }
+    for (const { number, inside: [x, y] } of found) {
+      const icon = L.divIcon({ className: "number", html: element("span", number), iconSize: [0, 0] });
+      drawing.texts.addLayer(L.marker(drawing.latlng([x, y]), { icon, interactive: false, keyboard: false }));
+    }
+  },
+
+  /** A place inside a ring, at half of its height, and how wide the ring is there. */
+  inside(ring) {
+    const ys = ring.map(([, y]) => y), y = (Math.min(...ys) + Math.max(...ys)) / 2 + 0.25, meets = [];
+    for (const [a, b] of Checks.edges(ring))
+      if (a[1] > y !== b[1] > y) meets.push(a[0] + (y - a[1]) / (b[1] - a[1]) * (b[0] - a[0]));
+    meets.sort((a, b) => a - b);
+    let best = [ring[0][0], y, 0];
+    for (let at = 0; at + 1 < meets.length; at += 2)
+      if (meets[at + 1] - meets[at] > best[2]) best = [(meets[at] + meets[at + 1]) / 2, y, meets[at + 1] - meets[at]];
+    return best;
   },
 
   style: (name) => getComputedStyle(document.documentElement).getPropertyValue(name).trim(),
@@ -151,10 +204,11 @@ const drawing = {
       for (const side of [0, 1]) drawing.origin[side] = Math.min(drawing.origin[side], corner[side]);
     drawing.parcels.setLayer("parcels", parcels.map(drawing.feature));
     drawing.parcels.showAll();
+    drawing.numbers();
   },
 
   /** Takes parcels out, by their ids, and puts others in. */
-  change(out, parcels) { drawing.parcels.replace("parcels", out, parcels.map(drawing.feature)); },
+  change(out, parcels) { drawing.parcels.replace("parcels", out, parcels.map(drawing.feature)); drawing.numbers(); },
 
   mark(id) { drawing.parcels.select(drawing.featureOf(id)); },
   show(id) { drawing.parcels.show(drawing.featureOf(id)); },
@@ -219,6 +273,43 @@ const drafts = {
     drafts.check();
   },
 
+  /** Takes a place that was typed, in metres with up to three decimals: it is taken as it is, to the millimetre. */
+  type() {
+    const draft = register.draft, found = $("place").value.trim().match(/^(-?\d{1,9})(?:\.(\d{1,3}))?[\s,;]+(-?\d{1,9})(?:\.(\d{1,3}))?$/);
+    if (!found) { $("answer").textContent = "Type x and y in metres, as 600010.250 5500020.125, with three decimals at most."; return; }
+    const whole = (metres, rest) => Number(metres) * 1000 + (metres.startsWith("-") ? -1 : 1) * Number((rest || "").padEnd(3, "0"));
+    const place = [whole(found[1], found[2]), whole(found[3], found[4])], ring = drafts.ring(draft.parcel);
+    $("answer").textContent = "";
+    if (draft.kind === "split" || draft.kind === "move" && draft.other !== null) draft.path.push(place);
+    else if (draft.kind === "straighten") draft.path = [place];
+    else if (draft.kind === "insert") {
+      const edge = ring && drafts.edge(ring, place), isOn = edge && Checks.isOn(place, edge.first, edge.last) && !Checks.same(place, edge.first) && !Checks.same(place, edge.last);
+      draft.edge = edge && { ...edge, new: isOn ? place : null };
+      draft.path = isOn ? [place] : [];
+    }
+    $("place").value = "";
+    drafts.check();
+  },
+
+  /** Whether an entry has one of a draft's parcels, or changes a corner in their box. */
+  isConcerned(draft, entry) {
+    const mine = [draft.parcel, draft.other].filter((id) => id !== null), [kind, ...words] = entry.edit.split(" ");
+    if (entry.out.some((id) => mine.includes(id))) return true;
+    if (kind !== "insert" && kind !== "straighten") return false;
+    const place = words.slice(-2).map(Number);
+    const isIn = (ring) => [0, 1].every((side) => ring.some((it) => it[side] <= place[side]) && ring.some((it) => it[side] >= place[side]));
+    return mine.map(drafts.ring).some((ring) => ring && isIn(ring));
+  },
+
+  /** Takes in what came since the draft was begun, where none of it concerns the draft: whether that is so. */
+  async isFresh(draft) {
+    const response = await register.ask(`/entries?after=${draft.at}&limit=1000`);
+    const { entries, records } = await response.json();
+    if (records.length < entries - draft.at || records.some((it) => drafts.isConcerned(draft, it))) return false;
+    draft.at = entries;
+    return true;
+  },
+
   ring: (id) => register.parcels.get(id)?.ring_mm,
 
   /** The edge of a ring that is nearest to a place, and the whole place on it. */
@@ -272,12 +363,13 @@ const drafts = {
   /** Sends the draft for the version that was seen at its begin. A lost answer is asked for again by the same key. */
   async send() {
     const draft = register.draft;
-    const headers = { "Content-Type": "application/json", "If-Match": String(draft.at), "Idempotency-Key": draft.key };
     $("send").disabled = true;
     for (let attempt = 0; ; attempt++) {
       try {
+        const headers = { "Content-Type": "application/json", "If-Match": String(draft.at), "Idempotency-Key": draft.key };
         const response = await register.ask("/edits", { method: "POST", headers, body: JSON.stringify(drafts.body(draft)) });
         if (response.status === 503 && attempt < 5) throw new Error("the register is not open");
+        if (response.status === 412 && attempt < 5 && await drafts.isFresh(draft)) continue;
         drafts.told(draft, response.status, await response.json());
         return;
       } catch (fault) {
@@ -316,6 +408,8 @@ $("tools").addEventListener("click", (event) => {
 });
 $("send").addEventListener("click", drafts.send);
 $("cancel").addEventListener("click", drafts.cancel);
+$("put").addEventListener("click", drafts.type);
+$("place").addEventListener("keydown", (event) => { if (event.key === "Enter") { event.preventDefault(); drafts.type(); } });
 $("undo").addEventListener("click", drafts.undo);
 $("search").addEventListener("submit", (event) => { event.preventDefault(); register.find($("number").value); });
 $("login").addEventListener("submit", (event) => {

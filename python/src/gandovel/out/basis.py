@@ -1,0 +1,154 @@
+"""What a verdict stands on: one record, the same in print, JSON, the report and Python."""
+from __future__ import annotations
+
+import datetime
+import hashlib
+from dataclasses import asdict, dataclass
+from functools import lru_cache
+from pathlib import Path
+from typing import Any, Dict, List, Optional
+
+from .. import __version__
+from ..program.tool import find_tool, program_version
+from ..reading.prepared import Prepared
+
+MEASURED = [
+    "precision.noise_mm",
+    "precision.near_pairs",
+    "precision.proposed",
+    "touched.largest_mm",
+    "touched.closed_m2",
+    "moved.largest_mm",
+    "unit.area_factor",
+]
+"""What of a basis is measured in floating point."""
+
+
+UNKNOWN: Dict[str, Any] = {"how": "unknown", "grid_mm": None, "noise_mm": None, "corners_by_grid": [], "near_pairs": []}
+"""The precision of a register that an earlier version of the package prepared."""
+
+
+@dataclass(frozen=True)
+class Basis:
+    """What a verdict stands on.
+
+    `sources`: each layer's role, path, name and SHA-256. `projection` and `unit` as they were taken. `precision`: how
+    finely the parcels are kept (`how`: grid, noise, exact, told or undecided), with the near pairs that were measured.
+    `touch_mm`: how far off a border a corner touched it at most. `touched`, `moved`: how many corners, the farthest
+    (mm), the area that touching closed (m2). `city`: where its outline is from. `program` and `package`: what judged,
+    with versions. `built_over_proofs` is None where the program's version line does not say it. `time`: when, in UTC.
+    """
+
+    sources: List[Dict[str, Any]]
+    projection: Optional[str]
+    unit: Dict[str, Any]
+    precision: Dict[str, Any]
+    touch_mm: float
+    touched: Dict[str, Any]
+    moved: Dict[str, Any]
+    city: str
+    options: Dict[str, Any]
+    program: Dict[str, Any]
+    package: str
+    time: str
+
+    @classmethod
+    def of(cls, prepared: Prepared) -> "Basis":
+        """The basis of a verdict on a register, as of now."""
+        told, unit = prepared.told, prepared.unit
+        return cls(
+            told.get("sources", []),
+            None if prepared.crs is None else str(prepared.crs.name),
+            {**asdict(unit), "metres": unit.millimetres / 1000},
+            told.get("precision", UNKNOWN),
+            told["touch"],
+            {"corners": told["touched"], "largest_mm": told["largest_touch"], "closed_m2": told["closed_m2"]},
+            {"corners": told["moved"], "largest_mm": told["largest_move"]},
+            told["city"],
+            told.get("options", {}),
+            _program(),
+            f"gandovel {__version__}",
+            datetime.datetime.now(datetime.timezone.utc).isoformat(timespec="seconds"),
+        )
+
+    def told(self) -> Dict[str, Any]:
+        """It as a dictionary that JSON can write."""
+        return {**asdict(self), "measured": MEASURED}
+
+    def line(self) -> str:
+        """It in one line: grid or noise, distance, corners that touch and move, the area closed."""
+        return f"{self._kept()}; {self._distance()}; {self._moved()}"
+
+    def _kept(self) -> str:
+        how, grid = self.precision["how"], self.precision["grid_mm"]
+        if how == "told":
+            return "the distance at which corners touch was told"
+        if how == "grid":
+            others = [one for one in self.precision["corners_by_grid"] if one["grid_mm"] != grid]
+            count = sum(one["corners"] for one in others)
+            return f"grid {_millimetres(grid)}" + (f" (another for {_corners(count)})" if count else "")
+        if how == "noise":
+            return f"no grid, but a noise of {_millimetres(self.precision['noise_mm'])} (measured)"
+        if how == "undecided":
+            return "no grid, and what is noise can't be told from faults"
+        return "the grid is not known" if how == "unknown" else "no grid, and no noise"
+
+    def _distance(self) -> str:
+        if self.touch_mm < 1e-3:
+            return "corners are compared exactly"
+        text = f"corners within {_millimetres(self.touch_mm)} of a border touch it"
+        count = self.touched["corners"]
+        if not count:
+            return f"{text}, and none lay beside one"
+        closed = f"{self.touched['closed_m2']:.2f} m2 closed"
+        return f"{text}: {_corners(count)}, {_millimetres(self.touched['largest_mm'])} off at most, {closed} (measured)"
+
+    def _moved(self) -> str:
+        count = self.moved["corners"]
+        if not count:
+            return "no corner moved"
+        return f"{_corners(count)} moved, {_millimetres(self.moved['largest_mm'])} at most (measured)"
+
+    def advice(self) -> Optional[str]:
+        """Where noise can't be told from faults: the distances that may be told instead, and what each would do."""
+        if self.precision["how"] != "undecided":
+            return None
+        texts = [
+            f"--touch {one['touch_mm']:g} ({one['touching']} touch, {one['left']} are left as faults)"
+            for one in self.precision["proposed"]
+        ]
+        return (
+            "it can't be decided how far off corners lie by the layer's rounding: their distances from borders have no "
+            f"clear edge. Say it by one of these, as counted in near pairs (measured): {'; '.join(texts)}"
+        )
+
+    def text(self) -> str:
+        """It as the report describes it: `line`, and `advice` where there is some."""
+        return f"The verdict stands on: {self.line()}. {self.advice() or ''}".rstrip()
+
+    def histogram(self) -> str:
+        """How far corners lie from borders that they nearly touch, as a sentence; empty where that was not measured."""
+        pairs = [one for one in self.precision["near_pairs"] if one["pairs"]]
+        texts = [f"{one['pairs']} up to {_millimetres(one['up_to_mm'])}" for one in pairs]
+        return f"Near pairs of a corner and a border (measured): {', '.join(texts)}." if texts else ""
+
+
+def _corners(count: int) -> str:
+    return f"{count} corner{'' if count == 1 else 's'}"
+
+
+def _millimetres(distance: float) -> str:
+    text = f"{distance:.2f}".rstrip("0").rstrip(".") if distance >= 0.01 else f"{distance:.0e}" if distance else "0"
+    return f"{text} mm"
+
+
+def _program() -> Dict[str, Any]:
+    path, line = Path(find_tool()), program_version()
+    says = "proof" in line
+    return {"version": line, "sha256": _digest(str(path), path.stat().st_mtime_ns), "built_over_proofs": says or None}
+
+
+@lru_cache(maxsize=8)
+def _digest(path: str, changed: int) -> str:
+    """The SHA-256 of a file, that was changed then: it is read once."""
+    return hashlib.sha256(Path(path).read_bytes()).hexdigest()

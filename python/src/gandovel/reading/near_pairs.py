@@ -1,0 +1,108 @@
+"""How far off corners lie from the borders that they nearly touch, and where noise ends and faults begin.
+
+A layer that was reprojected, or read from degrees, has no grid. But the rounding that it once had is still there: each
+corner that belongs on a neighbour's border lies a little off it. Over all such near pairs these distances make a heap,
+with nothing beyond its edge but faults. Where that edge is clear, corners within it touch. All of it is measured.
+"""
+from __future__ import annotations
+
+from dataclasses import dataclass, field
+from typing import Any, Dict, List, Optional
+
+import numpy as np
+
+from ..arrays import Array
+from ..exact.noding import near_pairs
+from .loops import Loops
+
+FARTHEST, MOST = 300.0, 150.0
+"""Pairs are looked at up to the first, in mm; no noise is taken to be more than the second (a decimetre's rounding)."""
+EXACT = 1e-4
+"""What is less, in mm, is the noise of floating point."""
+ENOUGH, EXCEPTIONS = 20, 5
+"""An edge is clear with so many pairs below it, and at most a fifth as many beyond it."""
+RARE, CURVED = 20, 0.05
+"""With one in so many beyond it an edge is clear, unless all below is less than so much (mm): by as much a straight
+border is curved in another projection, and that is not the noise of a rounding."""
+APART = 2.0
+"""Beyond a clear edge there is nothing as far as twice the distance."""
+COMMON, CHANCE = 30.0, 0.1
+"""Pairs beyond an edge are a heap of their own where it is no wonder, by that chance, that none is nearer; up to so far
+(mm)."""
+EDGES = (1e-4, 1e-3, 0.01, 0.1, 0.2, 0.5, 1.0, 2.0, 5.0, 10.0, 15.0, 20.0, 30.0, 50.0, 100.0, 150.0, 300.0)
+PROPOSED = 4
+
+
+@dataclass
+class Noise:
+    """What near pairs say of a layer without a grid.
+
+    `distance` (mm): the farthest that a corner lies off its border by noise; None where the edge is not clear. `counts`
+    are the pairs up to each of `EDGES`, and `proposed` the distances that may be told by `--touch` where it is not.
+    """
+
+    distance: Optional[float]
+    counts: List[int] = field(default_factory=list)
+    proposed: List[Dict[str, Any]] = field(default_factory=list)
+
+    def histogram(self) -> List[Dict[str, Any]]:
+        """The pairs by distance, as `--json` and reports have them."""
+        return [{"up_to_mm": edge, "pairs": count} for edge, count in zip(EDGES, self.counts)]
+
+
+def noise_of_pairs(loops: Loops, points: Array, floor: float) -> Noise:
+    """The noise of a layer's loops (of point indices); `floor` (mm) is what floating point may have moved a corner."""
+    off = np.sort(near_pairs(loops, points, FARTHEST))
+    exact = max(EXACT, floor)
+    counts = np.diff(np.searchsorted(off, [0.0, *EDGES], side="right"), prepend=0)[1:]
+    found = Noise(None, counts.tolist())
+    found.counts[0] += int((off == 0).sum()) if len(off) else 0
+    blurred = False
+    for distance in _edges(off, exact):
+        below = int(np.searchsorted(off, distance, side="right"))
+        if not blurred and _is_clear(off[below:], below, distance, exact):
+            found.distance = 0.0 if distance <= exact else float(distance)
+            return found
+        blurred = blurred or _is_sharp(off[below:], below)
+        if distance > exact:
+            left = int((off[below:] <= MOST).sum())
+            found.proposed.append({"touch_mm": _rounded_up(float(distance)), "touching": below, "left": left})
+    found.proposed = [{"touch_mm": 0.0, "touching": 0, "left": int((off > exact).sum())}, *found.proposed[-PROPOSED:]]
+    return found
+
+
+def _edges(off: Array, exact: float) -> List[float]:
+    """Distances, in order, beyond which nothing is as far as `APART` times: that of floating point first."""
+    after = np.append(off[1:], np.inf)
+    kept = (off > exact) & (off <= MOST) & (after >= APART * off)
+    return [exact, *np.unique(off[kept]).tolist()]
+
+
+def _is_sharp(beyond: Array, below: int) -> bool:
+    """Whether enough pairs are below an edge, and few beyond it: if it is not clear then, no later one is."""
+    return below >= ENOUGH and EXCEPTIONS * len(beyond) <= below
+
+
+def _is_clear(beyond: Array, below: int, distance: float, exact: float) -> bool:
+    if _is_sharp(beyond, below):
+        if distance <= exact or (distance >= CURVED and RARE * len(beyond) <= below):
+            return True
+        return not _is_heap(beyond, distance, max(COMMON, 3 * distance))
+    return distance <= exact and not _is_heap(beyond, distance, MOST)
+
+
+def _is_heap(beyond: Array, distance: float, farthest: float) -> bool:
+    """Whether pairs beyond an edge may be spread evenly from it on: then it is no edge of theirs, but of others."""
+    near = beyond[beyond <= farthest]
+    if len(near) < 3:
+        return False
+    count = np.arange(1, len(near) + 1)
+    with np.errstate(divide="ignore", invalid="ignore"):
+        chance = ((near - near[0]) / (near - distance)) ** count
+    return bool((chance[2:] > CHANCE).any())
+
+
+def _rounded_up(distance: float) -> float:
+    """A distance with two decimals, or one digit where it is less, that is no less."""
+    step = 0.01 if distance >= 0.01 else 10.0 ** np.floor(np.log10(distance))
+    return float(round(np.ceil(distance / step) * step, 12))

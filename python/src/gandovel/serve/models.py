@@ -1,0 +1,159 @@
+"""What answers and bodies have, as the definition of the API says it."""
+from __future__ import annotations
+
+from typing import TYPE_CHECKING, Any, Dict, List, Literal, Optional, Tuple
+
+from pydantic import BaseModel, Extra, Field, conint, conlist
+
+from ..live.journals import FARTHEST
+
+MOST_POINTS = 10_000
+if TYPE_CHECKING:
+    Whole = int
+    Places = List[Tuple[int, int]]
+else:
+    Whole = conint(strict=True, ge=-FARTHEST, le=FARTHEST)
+    Places = conlist(Tuple[Whole, Whole], max_items=MOST_POINTS)
+
+
+class Points(BaseModel):
+    """Points in whole millimetres."""
+
+    points: Places = Field(description="[x, y] each, in whole millimetres")
+
+    class Config:
+        extra = Extra.forbid
+
+
+class Refusal(BaseModel):
+    """Why a request is not carried out."""
+
+    code: str = Field(description="a word for programs")
+    description: str = Field(description="what to do, in words")
+    status: int = Field(description="the status of HTTP")
+
+    class Config:
+        extra = Extra.allow
+
+
+class Place(BaseModel):
+    """Where a point lies."""
+
+    entries: int = Field(description="after how many entries of the journal")
+    x: int
+    y: int
+    where: Literal["inside", "edge", "outside"]
+    parcels: List[int] = Field(description="the parcel that it is inside, or all with the point on an edge")
+    moved_mm: Optional[float] = Field(None, description="how far the whole millimetres are from the place (measured)")
+    moved_how: Optional[Literal["measured"]]
+
+
+class ManyPlaces(BaseModel):
+    """Where several points lie, in their order."""
+
+    places: List[Place]
+
+
+class EntryTold(BaseModel):
+    """An entry of the journal."""
+
+    number: int
+    time: str = Field(description="UTC")
+    who: Optional[str]
+    why: str
+    edit: str = Field(description="as a line of a clerk's file")
+    out: List[int] = Field(description="ids of the parcels that it took out")
+    new: List[int] = Field(description="ids of the parcels that it brought")
+
+
+class Entries(BaseModel):
+    """Entries of the journal."""
+
+    entries: int
+    records: List[EntryTold]
+
+
+class Parcel(BaseModel):
+    """A parcel, with the attributes of the layer."""
+
+    id: int
+    number: Optional[str]
+    came_from: str
+    entry: int
+    area2_mm2: str
+    area_m2: float
+    ring_mm: List[List[int]]
+
+    class Config:
+        extra = Extra.allow
+
+
+class Parcels(BaseModel):
+    """Parcels of one version."""
+
+    entries: int
+    parcels: List[Parcel]
+    next: Optional[str]
+
+
+class History(BaseModel):
+    """Which entries brought a parcel, and took it out."""
+
+    parcel: int
+    entries: int
+    history: List[EntryTold]
+
+
+class Ancestor(BaseModel):
+    """A parcel of a lineage."""
+
+    id: int
+    number: Optional[str]
+    came_from: str
+    replaces: List[int] = Field(description="the parcels that it was made of")
+    replaced_by: List[int] = Field(description="the parcels that were made of it")
+    made_by: Optional[EntryTold]
+    taken_by: Optional[EntryTold]
+
+
+class Lineage(BaseModel):
+    """A parcel, all that it was made of, and all that was made of it, by ascending ids."""
+
+    parcel: int
+    entries: int
+    parcels: List[Ancestor]
+
+
+class ParcelZones(BaseModel):
+    """The zones that a parcel overlaps."""
+
+    parcel: int
+    entries: int
+    zones: List[str]
+
+
+class Overlay(BaseModel):
+    """Which parcels and zones overlap: zones by their place in `zones`, from 1."""
+
+    entries: int
+    zones: List[str]
+    pairs: List[List[int]]
+    split: List[int]
+    within: List[List[int]]
+
+
+class Health(BaseModel):
+    """Whether the register is open."""
+
+    state: str
+    entries: int
+    kept_from: int
+    restarts: int
+    trouble: str
+
+
+def told_by(model: Any, kind: str = "application/json", text: str = "the answer") -> Dict[Any, Dict[str, Any]]:
+    """What the definition says of a success: the model, or any object of a media type where it is None."""
+    if model is not None:
+        return {200: {"model": model, "description": text}}
+    return {200: {"content": {kind: {"schema": {"type": "object"}}}, "description": text}}

@@ -1,0 +1,1 @@
+"""Which address answers what: a router for each theme."""

@@ -1,0 +1,92 @@
+"""What all answers need of a server: its register, its counters, its address; and the forms of answers."""
+from __future__ import annotations
+
+import json
+from typing import Any, Dict, Optional
+
+from fastapi import Request
+from fastapi.responses import HTMLResponse, JSONResponse, Response
+
+from ..errors import JournalBroken, NoMemory, NoSuchLine, NoZones, Refused, RefusedEdit, SessionError
+from .faults import BadRequest, Fault, as_json, parcel_of, words_of
+from .features import Collections, Page
+from .metrics import Metrics
+from .pages import html_of
+from .register import Register
+
+OPENAPI = "application/vnd.oai.openapi+json;version=3.0"
+GEOJSON = "application/geo+json"
+
+
+class Site:
+    """The register with all that its answers need. `base` is the server's address as clients know it."""
+
+    def __init__(self, register: Register, metrics: Metrics, base: Optional[str] = None) -> None:
+        self.register, self.metrics, self._base = register, metrics, base
+        self.collections = Collections(register)
+
+    def base(self, request: Request) -> str:
+        """The server's address, without a slash at its end."""
+        return (self._base or str(request.base_url)).rstrip("/")
+
+
+def kind_of(request: Request) -> str:
+    """`html` or `json`: by `f`, else by what the client takes. Raises `BadRequest`."""
+    asked = request.query_params.get("f")
+    if asked in ("json", "html"):
+        return asked
+    if asked is not None:
+        raise BadRequest("f", "f is json or html")
+    accepts = request.headers.get("accept", "")
+    return "html" if "text/html" in accepts and "json" not in accepts else "json"
+
+
+def shown(
+    request: Request, body: Dict[str, Any], title: str, kind: str = "application/json", entries: Optional[int] = None
+) -> Response:
+    """A body as JSON of this media type, or as a page of HTML; its links as a header, too; of which version it is."""
+    headers = {} if entries is None else {"gandovel-entries": str(entries)}
+    if "links" in body:
+        headers["link"] = ", ".join(_header_of(it) for it in body["links"])
+    if kind_of(request) == "html":
+        return HTMLResponse(html_of(title, body), headers=headers)
+    content = json.dumps(body, ensure_ascii=False, separators=(",", ":")).encode()
+    return Response(content, media_type=kind, headers=headers)
+
+
+def page_shown(request: Request, page: Page, title: str) -> Response:
+    """A page of features, or a feature, with its projection as a header."""
+    response = shown(request, page.body, title, GEOJSON, page.entries)
+    response.headers["content-crs"] = f"<{page.crs}>"
+    return response
+
+
+def versioned(body: Dict[str, Any], entries: int) -> Response:
+    """A body as JSON, and of which version it is."""
+    return JSONResponse(body, headers={"gandovel-entries": str(entries)})
+
+
+def _header_of(link: Dict[str, str]) -> str:
+    """A link as RFC 8288 has it."""
+    address = link["href"].encode("ascii", "backslashreplace").decode()
+    return f'<{address}>; rel="{link["rel"]}"; type="{link["type"]}"'
+
+
+def answer_of(fault: Refused) -> Response:
+    """The answer for a refusal. No text of the program's is in it but codes and numbers."""
+    if isinstance(fault, Fault):
+        body = as_json(fault.status_code, fault.code, fault.text, **fault.more)
+        headers = {"retry-after": "1"} if fault.status_code in (429, 503) else {}
+        return JSONResponse(body, fault.status_code, headers)
+    if isinstance(fault, RefusedEdit) and fault.code != "no memory":
+        body = as_json(409, fault.code, words_of(fault), named=fault.text, parcel=parcel_of(fault))
+        return JSONResponse(body, 409)
+    if isinstance(fault, NoZones):
+        return JSONResponse(as_json(404, "no zones", "the layer was prepared without zones"), 404)
+    if isinstance(fault, NoSuchLine):
+        return JSONResponse(as_json(400, "L1", "the program does not take this line"), 400)
+    if isinstance(fault, JournalBroken):
+        text = "the journal can't be written: tell the operator to see that its disk has room"
+        return JSONResponse(as_json(503, "journal", text), 503, {"retry-after": "5"})
+    text = "the register can't answer now: try again" if isinstance(fault, (SessionError, NoMemory)) else "try again"
+    return JSONResponse(as_json(503, fault.code, text), 503, {"retry-after": "1"})

@@ -1,0 +1,268 @@
+"""Registers whose truth is known: random ones of 50 to 500 parcels with gaps and overlaps planted, kept as registers are.
+
+`CASES` names the ways in which a register is kept: rounded to a decimal grid or to 5, 25 or 50 mm, with one corner finer
+than the others, reprojected, in a File Geodatabase, in degrees with seven decimals, in feet, with a curve. `case(name,
+seed, folder)` makes one, `Case.judged` says what of the planted was found, and what was found that is not there.
+
+Run as a program it writes one layer: `planted.py NAME SEED FOLDER` makes FOLDER/parcels.gpkg and FOLDER/truth.csv.
+"""
+from __future__ import annotations
+
+import csv
+import random
+import subprocess
+import sys
+from dataclasses import dataclass, field
+from pathlib import Path
+from typing import Any, Callable, Dict, Iterable, List, Optional, Sequence, Tuple
+
+import geopandas as gpd
+import numpy as np
+from pyproj import Transformer
+from shapely.geometry import Polygon
+
+from slanted import Planted, slanted
+
+METRIC, OTHER, FEET = 25832, 25833, 2263
+"""UTM zone 32, where the registers lie; its neighbour; New York's plane in feet of the United States survey."""
+GEODATABASE_OF_FEET = ("XYSCALE=3048.00609601219", "XORIGIN=-117608900", "YORIGIN=-91881400", "XYTOLERANCE=0.00328083")
+"""The resolution that an Esri geodatabase gives a layer in feet by default: a tenth of a millimetre, and its origin."""
+WIDEST, NARROWEST = 8.0, 2.2
+"""How wide planted faults are: in distances that the way of keeping explains. None is narrower than twice that."""
+
+
+@dataclass
+class Case:
+    """A layer to be judged: `source` is a frame or a path; `planted` what is wrong with it; `distance` (mm) how far a
+    corner may be off its border by the way in which the layer is kept."""
+
+    name: str
+    source: Any
+    planted: List[Planted]
+    distance: float
+    crs: int = METRIC
+    options: Dict[str, Any] = field(default_factory=dict)
+
+    def judged(self, told: Iterable[Tuple[str, Sequence[str]]]) -> "Counts":
+        """What was told, as (kind, numbers) of each fault, beside what is planted."""
+        left = {at: fault for at, fault in enumerate(self.planted)}
+        false = 0
+        for kind, numbers in told:
+            at = next((at for at, it in left.items() if it.kind == kind and set(it.numbers) <= set(numbers)), None)
+            if at is None:
+                false += 1
+            else:
+                del left[at]
+        return Counts(len(self.planted) - len(left), len(left), false)
+
+
+@dataclass
+class Counts:
+    """Of planted faults how many were found and missed, and how many were told that are none."""
+
+    found: int = 0
+    missed: int = 0
+    false: int = 0
+
+    def __add__(self, other: "Counts") -> "Counts":
+        return Counts(self.found + other.found, self.missed + other.missed, self.false + other.false)
+
+
+def drawn(seed: int, distance: float, faults: Optional[int] = None) -> Tuple[gpd.GeoDataFrame, List[Planted]]:
+    """A register of 50 to 500 parcels as floats, in metres, with up to six faults, each wider than twice `distance`
+    (mm)."""
+    pick = random.Random(seed)
+    bands = pick.randint(5, 20)
+    cells = max(-(-50 // bands), min(500 // bands, pick.randint(5, 40)))
+    inner = [band * cells + at for band in range(1, bands - 1) for at in range(1, cells - 2)]
+    count = pick.randint(0, min(6, len(inner) // 12)) if faults is None else faults
+    moves: Dict[int, float] = {}
+    for at in pick.sample(inner, len(inner)):
+        if len(moves) == count:
+            break
+        if not _beside(moves, at, cells):
+            moves[at] = pick.choice([-1, 1]) * min(pick.uniform(NARROWEST, WIDEST) * distance / 1000.0, 6.0)
+    return slanted(seed, bands, cells, None, moves)
+
+
+def _beside(moves: Dict[int, float], at: int, cells: int) -> bool:
+    """Whether one of these faults lies beside the place: two that touch are told as one."""
+    return any(abs(at // cells - it // cells) <= 1 and abs(at % cells - it % cells) <= 3 for it in moves)
+
+
+def reshaped(frame: gpd.GeoDataFrame, change: Callable[[np.ndarray], np.ndarray], crs: Any = None) -> gpd.GeoDataFrame:
+    """A frame with each ring's corners (n, 2) changed."""
+
+    def changed(shape: Polygon) -> Polygon:
+        rings = [change(np.asarray(ring.coords)[:, :2]) for ring in (shape.exterior, *shape.interiors)]
+        return Polygon(rings[0], rings[1:])
+
+    shapes = [changed(shape) for shape in frame.geometry]
+    return gpd.GeoDataFrame(frame.drop(columns="geometry"), geometry=shapes, crs=crs or frame.crs)
+
+
+def rounded(frame: gpd.GeoDataFrame, step: float) -> gpd.GeoDataFrame:
+    """A frame with each coordinate rounded to a multiple of `step`, in its unit, and then as a decimal number is."""
+    return reshaped(frame, lambda corners: np.round(np.round(corners / step) * step, 9))
+
+
+def projected(frame: gpd.GeoDataFrame, *systems: int) -> gpd.GeoDataFrame:
+    """A frame taken to other projections by PROJ, one after another."""
+    for one, other in zip((frame.crs.to_epsg(), *systems), systems):
+        way = Transformer.from_crs(one, other, always_xy=True)
+        frame = reshaped(frame, lambda corners: np.column_stack(way.transform(*corners.T)), other)
+    return frame
+
+
+def with_a_finer_corner(frame: gpd.GeoDataFrame, seed: int) -> gpd.GeoDataFrame:
+    """A frame in centimetres with one corner moved by some millimetres, in each parcel that has it."""
+    pick = random.Random(seed)
+    x, y = pick.choice(list(frame.geometry.iloc[pick.randrange(len(frame))].exterior.coords))
+    to = round(x + pick.choice([-3, -2, 2, 3]) / 1000, 3), round(y + pick.choice([-4, -1, 1, 4]) / 1000, 3)
+
+    def change(corners: np.ndarray) -> np.ndarray:
+        return np.where((corners == (x, y)).all(axis=1)[:, None], to, corners)
+
+    return reshaped(frame, change)
+
+
+def through(frame: gpd.GeoDataFrame, folder: Path, name: str, *options: str, driver: str) -> Path:
+    """A frame as a file that `ogr2ogr` wrote, by a driver of GDAL."""
+    folder.mkdir(parents=True, exist_ok=True)
+    plain, path = folder / "plain.gpkg", folder / name
+    frame.to_file(plain, layer="parcels", driver="GPKG")
+    subprocess.run(["ogr2ogr", "-f", driver, *options, str(path), str(plain), "parcels"], check=True)
+    return path
+
+
+def _grid(step: float) -> Callable[[int, Path], Case]:
+    """Rounded to multiples of `step` (mm)."""
+
+    def made(seed: int, folder: Path) -> Case:
+        frame, planted = drawn(seed, 1.42 * step)
+        return Case("", rounded(frame, step / 1000), planted, 1.42 * step)
+
+    return made
+
+
+def _finer_corner(seed: int, folder: Path) -> Case:
+    frame, planted = drawn(seed, 14.2)
+    return Case("", with_a_finer_corner(rounded(frame, 0.01), seed), planted, 14.2)
+
+
+def _projected(*systems: int) -> Callable[[int, Path], Case]:
+    """In centimetres, and then taken to other projections."""
+
+    def made(seed: int, folder: Path) -> Case:
+        frame, planted = drawn(seed, 14.5)
+        return Case("", projected(rounded(frame, 0.01), *systems), planted, 14.5, systems[-1])
+
+    return made
+
+
+def _geodatabase(seed: int, folder: Path) -> Case:
+    frame, planted = drawn(seed, 14.2)
+    path = through(rounded(frame, 0.01), folder, "parcels.gdb", driver="OpenFileGDB")
+    return Case("", path, planted, 14.2)
+
+
+def _degrees(seed: int, folder: Path) -> Case:
+    """In centimetres, then in degrees with seven decimals (11 mm to the north), then in metres again."""
+    frame, planted = drawn(seed, 30.0)
+    degrees = ("-t_srs", "EPSG:4326", "-lco", "COORDINATE_PRECISION=7")
+    path = through(rounded(frame, 0.01), folder, "parcels.geojson", *degrees, driver="GeoJSON")
+    back = folder / "back.gpkg"
+    subprocess.run(["ogr2ogr", "-t_srs", f"EPSG:{METRIC}", str(back), str(path)], check=True)
+    return Case("", back, planted, 30.0)
+
+
+def _feet(step: Optional[float]) -> Callable[[int, Path], Case]:
+    """In feet, rounded to `step` (feet; None: not), at the resolution of a geodatabase."""
+
+    def made(seed: int, folder: Path) -> Case:
+        distance = 1.42 * max(1.0, (step or 0.0) * 304.8006096) + 0.2
+        frame, planted = drawn(seed, distance)
+        foot = 0.3048006096
+        there = reshaped(frame, lambda corners: (corners - (561_000, 5_934_000)) / foot + (980_000, 200_000), FEET)
+        kept = there if step is None else rounded(there, step)
+        options = [word for one in GEODATABASE_OF_FEET for word in ("-lco", one)]
+        path = through(kept, folder, "parcels.gdb", *options, driver="OpenFileGDB")
+        return Case("", path, planted, distance, FEET)
+
+    return made
+
+
+def _curve(seed: int, folder: Path) -> Case:
+    """In centimetres, but for one parcel at the outline, one side of which is an arc, at its floats."""
+    from osgeo import ogr, osr
+
+    frame, planted = drawn(seed, 14.2)
+    frame = rounded(frame, 0.01)
+    folder.mkdir(parents=True, exist_ok=True)
+    path = folder / "parcels.gpkg"
+    made = ogr.GetDriverByName("GPKG").CreateDataSource(str(path))
+    system = osr.SpatialReference()
+    system.ImportFromEPSG(METRIC)
+    layer = made.CreateLayer("parcels", system, ogr.wkbCurvePolygon)
+    layer.CreateField(ogr.FieldDefn("parcel_no", ogr.OFTString))
+    for row, (number, shape) in enumerate(zip(frame["parcel_no"], frame.geometry)):
+        corners = list(shape.exterior.coords)
+        text = _arc_of(corners) if row == 0 else shape.wkt
+        feature = ogr.Feature(layer.GetLayerDefn())
+        feature["parcel_no"] = number
+        feature.SetGeometry(ogr.CreateGeometryFromWkt(text))
+        layer.CreateFeature(feature)
+    del layer, made
+    return Case("", path, planted, 14.2)
+
+
+def _arc_of(corners: List[Tuple[float, float]]) -> str:
+    """A ring whose first side, which is on the register's outline, is an arc that bulges outwards."""
+    (ax, ay), (bx, by) = corners[:2]
+    middle = (ax + bx) / 2 + 0.137 * (by - ay), (ay + by) / 2 - 0.137 * (bx - ax)
+    arc = ", ".join(f"{x!r} {y!r}" for x, y in ((ax, ay), middle, (bx, by)))
+    line = ", ".join(f"{x!r} {y!r}" for x, y in corners[1:])
+    return f"CURVEPOLYGON (COMPOUNDCURVE (CIRCULARSTRING ({arc}), ({line})))"
+
+
+CASES: Dict[str, Callable[[int, Path], Case]] = {
+    "millimetres": _grid(1),
+    "centimetres": _grid(10),
+    "decimetres": _grid(100),
+    "5 mm": _grid(5),
+    "25 mm": _grid(25),
+    "50 mm": _grid(50),
+    "one corner finer": _finer_corner,
+    "reprojected": _projected(OTHER),
+    "reprojected and back": _projected(4326, METRIC),
+    "File Geodatabase": _geodatabase,
+    "degrees": _degrees,
+    "feet": _feet(None),
+    "hundredths of feet": _feet(0.01),
+    "a curve": _curve,
+}
+"""The ways in which registers are kept."""
+
+
+def case(name: str, seed: int, folder: Path) -> Case:
+    """A random register that is kept in one of these ways; files, where there are some, are in the folder."""
+    made = CASES[name](seed, folder)
+    made.name = name
+    return made
+
+
+def main() -> None:
+    """Writes a case as a layer and its truth."""
+    name, seed, folder = sys.argv[1], int(sys.argv[2]), Path(sys.argv[3])
+    folder.mkdir(parents=True, exist_ok=True)
+    made = case(name, seed, folder)
+    if isinstance(made.source, gpd.GeoDataFrame):
+        made.source.to_file(folder / "parcels.gpkg", driver="GPKG")
+    with open(folder / "truth.csv", "w", newline="", encoding="utf-8") as file:
+        writer = csv.writer(file)
+        writer.writerow(["kind", "first", "second", "area_m2"])
+        writer.writerows((it.kind, *it.numbers, f"{it.area:.6f}") for it in made.planted)
+
+
+if __name__ == "__main__":
+    main()
