@@ -4,14 +4,14 @@ It is there once `gandovel` is imported after pandas or GeoPandas, or once anyth
 """
 from __future__ import annotations
 
-import os
+from pathlib import Path
 from typing import Any, Optional, Sequence, Union, Unpack
 
 import geopandas as gpd
 import pandas as pd
 
-from .faults import mend
-from .out import report
+from .faults.mend import Mended, mend
+from .out.report import Report, report
 from .program import applied, commands
 from .program.edits import Edit
 from .reading.prepared import Prepared
@@ -37,11 +37,9 @@ class Accessor:
         """The faults, the largest area first, as `gandovel.check`."""
         return commands.check(self._frame, zones, **options)
 
-    def report(
-        self, zones: Optional[Source] = None, min_area: float = 1.0, **options: Unpack[Options]
-    ) -> report.Report:
+    def report(self, zones: Optional[Source] = None, min_area: float = 1.0, **options: Unpack[Options]) -> Report:
         """Gaps, overlaps and split parcels, as `gandovel.report`. `min_area` (m2): parts of less are slivers."""
-        return report.report(self._frame, zones, min_area, **options)
+        return report(self._frame, zones, min_area, **options)
 
     def area(self, **options: Unpack[Options]) -> gpd.GeoDataFrame:
         """The parcels with their areas, as `gandovel.area`."""
@@ -55,9 +53,9 @@ class Accessor:
         """In which parcels points lie, as `gandovel.locate`."""
         return commands.locate(self._frame, points, **options)
 
-    def mend(self, width: float = 1.0, **options: Unpack[Options]) -> mend.Mended:
+    def mend(self, width: float = 1.0, **options: Unpack[Options]) -> Mended:
         """The parcels without slivers up to `width` (mm), as `gandovel.mend`."""
-        return mend.mend(self._frame, width, **options)
+        return mend(self._frame, width, **options)
 
     def apply(
         self, edits: Union[Edit, str, Sequence[Any]], island: Optional[int] = None, **options: Any
@@ -67,11 +65,11 @@ class Accessor:
 
     def map(
         self,
-        path: Union[str, "os.PathLike[str]"],
+        path: Union[str, Path],
         zones: Optional[Source] = None,
         min_area: float = 1.0,
         **options: Unpack[Options],
-    ) -> report.Report:
+    ) -> Report:
         """Writes the report's page to look at (`Report.map`), and returns the report."""
         answer = self.report(zones, min_area, **options)
         answer.map(path)

@@ -18,6 +18,7 @@ from shapely.geometry import MultiPolygon
 from ..arrays import Array
 from ..errors import Refused
 from ..out.gpkg import Table, test_name, write_layers
+from ..out.own_frames import parcels_as_given
 from ..out.report import Report, report
 from ..out.verdict import Verdict
 from ..program.untiled_overlays import area_polygons
@@ -108,7 +109,7 @@ def mend(
     closed = [_told(again, piece) for done in found for piece in done.closed]
     is_whole = answer.verdict != "does not tile"  # what is left went where borders were rounded to the grid
     left = [] if is_whole else [_told(again, piece) for done in found if done.is_last for piece in done.left]
-    return Mended(again.parcels, answer, closed, left)
+    return Mended(parcels_as_given(again), answer, closed, left)
 
 
 def _mended_island(
@@ -169,6 +170,8 @@ def _with_islands(prepared: Prepared, islands: List[Island], rows: int) -> Prepa
     told = {**prepared.told, "touched": 0}
     again = Prepared(frame, numbers, prepared.number, prepared.unit, islands, told=told)
     again.open_gaps, again.skipped, again.lost = prepared.open_gaps, prepared.skipped, prepared.lost
+    if not new:
+        again.given_keys["parcels"] = prepared.parcel_key
     return again
 
 

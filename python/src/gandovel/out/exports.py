@@ -60,7 +60,8 @@ def back_all(prepared: Prepared, rings: Dict[int, Sequence[Array]]) -> gpd.GeoDa
     rows: List[Row] = []
     whole: Dict[int, List[int]] = defaultdict(list)
     for at, island in enumerate(prepared.islands):
-        begin, edited, same = len(joined), rings.get(at), {}
+        begin, edited = len(joined), rings.get(at)
+        same: Dict[int, List[int]] = {}
         joined += island.parcels.rings if edited is None else edited
         if edited is not None:
             made, same = _rows(prepared, edited, at)

@@ -23,9 +23,9 @@ from ..arrays import Array
 from ..errors import Refused
 from ..exact.noding import LEAST
 from ..exact.rings import Number
+from ..exact.whole_numbers import texts_of, whole_numbers
 from ..faults.neighbours import Neighbour, overlaps_with
 from ..faults.polygons import fault_area
-from ..exact.whole_numbers import Exact, texts_of, whole_numbers
 from ..large.cutting import boxes_of
 from ..large.shares import in_shares
 from ..program.verdicts import LayerFaults, checked, layer_faults, numbers_at, overlay_island, write_island
@@ -46,6 +46,8 @@ from .styles import STYLES
 from .verdict import Verdict
 
 SHOWN = 8
+AREAS = ("area2_mm2", "area2_most_mm2")
+"""The columns of faults that are whole numbers, and text in a file."""
 LAYERS = {"gap": "gaps", "overlap": "overlaps", "beyond": "beyond"}
 """The report's layer of each kind of fault."""
 CITIES = {
@@ -157,7 +159,8 @@ class Report:
             return gpd.GeoDataFrame(columns=["kind", *FAULT_COLUMNS], geometry="geometry", crs=self.gaps.crs)
         both = pd.concat(frames, ignore_index=True)
         both = both.iloc[_largest_first(both["area2_mm2"])].reset_index(drop=True)
-        both["area2_mm2"] = whole_numbers(both["area2_mm2"].tolist())
+        for name in AREAS:
+            both[name] = whole_numbers(both[name].tolist())
         return gpd.GeoDataFrame(both, geometry="geometry", crs=self.gaps.crs)
 
     def summary(self) -> str:
@@ -255,16 +258,16 @@ def _told(report: Report, layer: str) -> str:
 
 def _as_texts(faults: gpd.GeoDataFrame) -> gpd.GeoDataFrame:
     """Faults as a file has them: their areas in mm2 are texts, which have no end."""
-    return faults.assign(**{name: texts_of(faults[name].tolist()) for name in ("area2_mm2", "area2_most_mm2")})
+    return faults.assign(**{name: texts_of(faults[name].tolist()) for name in AREAS})
 
 
-def _areas(doubled: Iterable[Exact], unit: Unit) -> str:
+def _areas(doubled: Iterable[Any], unit: Unit) -> str:
     """The largest of doubled areas (mm2), as they are printed."""
     areas = sorted((Fraction(area2) / 2 for area2 in doubled), reverse=True)
     return ", ".join(area_text(area, unit) for area in areas[:SHOWN]) + (", .." if len(areas) > SHOWN else "")
 
 
-def _largest_first(doubled: Iterable[Exact]) -> List[int]:
+def _largest_first(doubled: Iterable[Any]) -> List[int]:
     """The order of doubled areas (mm2) in which the largest is first: exact."""
     areas = [Fraction(area2) for area2 in doubled]
     return sorted(range(len(areas)), key=lambda at: -areas[at])
@@ -448,7 +451,7 @@ def _open_gaps(prepared: Prepared) -> gpd.GeoDataFrame:
 
 def _fault_frame(rows: List[Dict[str, Any]], columns: List[str], prepared: Prepared) -> gpd.GeoDataFrame:
     frame = gpd.GeoDataFrame(rows, columns=columns, geometry="geometry", crs=prepared.crs)
-    for name in ("area2_mm2", "area2_most_mm2"):
+    for name in AREAS:
         frame[name] = whole_numbers([int(row[name]) for row in rows])
     return frame
 

@@ -12,7 +12,7 @@ from ..errors import Refused
 from ..program.tool import program_version
 from ..reading.prepared import OUT_ROW, Prepared
 from .known import identities
-from .report import Report
+from .report import AREAS, Report
 
 FAULT_KEYS = (
     "kind",
@@ -89,7 +89,7 @@ def faults_of(report: Report) -> List[Dict[str, Any]]:
     for identity, row, shape in zip(identities(report), rows, frame.geometry):
         inside = shape.representative_point()
         numbers = [number for number in row["numbers"].split(",") if number]
-        areas = {name: str(row[name]) for name in ("area2_mm2", "area2_most_mm2")}
+        areas = {name: str(row[name]) for name in AREAS}
         found.append(
             {
                 "id": identity,

@@ -75,7 +75,7 @@ def check(parcels: Register, zones: Optional[Source] = None, **options: Unpack[O
     >>> gandovel.check(plots)[["kind", "area2_mm2", "numbers"]].values.tolist()
     [['overlap', 20000000, '7,8']]
     """
-    judged = report(register_of(parcels, zones, **options))
+    judged = report(parcels, zones, **options)
     found = judged.faults()
     found.attrs["basis"] = judged.basis
     return found
