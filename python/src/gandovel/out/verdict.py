@@ -45,5 +45,4 @@ _WORDS = {
     "does not tile": "the parcels do not tile the city: there are gaps or overlaps",
     "undecided": "which faults there are can't be told from the layer's noise",
     "open": "the parcels tile the city that they make, which has gaps that are open to the outside",
-    "undecided": "what are faults cannot be told from the layer's noise",
 }
