@@ -51,10 +51,13 @@ def _answering(command: argparse.ArgumentParser) -> None:
     forms.add_argument("--csv", action="store_true", help="a table on standard output")
 
 
-def _asked_about(command: argparse.ArgumentParser, count: Optional[str] = None) -> None:
+def _asked_about(command: argparse.ArgumentParser, may_be_missing: bool = False) -> None:
     """The register that a command asks about."""
     what = "what prepare wrote, or the parcels' layer"
-    command.add_argument("source", metavar="FOLDER|PARCELS", nargs=count, help=what)
+    if may_be_missing:
+        command.add_argument("source", metavar="FOLDER|PARCELS", nargs="?", help=what)
+    else:
+        command.add_argument("source", metavar="FOLDER|PARCELS", help=what)
 
 
 def _add_questions(commands: Any) -> None:
@@ -64,7 +67,7 @@ def _add_questions(commands: Any) -> None:
     overlay = commands.add_parser("overlay", help="which parcels lie in which zones, printed")
     locate = commands.add_parser("locate", help="in which parcels points lie, printed")
     for command in (check, report, overlay, locate):
-        _asked_about(command, "?" if command is check else None)
+        _asked_about(command, may_be_missing=command is check)
         _preparing(command)
         add_options(command)
         _answering(command)

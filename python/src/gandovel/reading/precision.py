@@ -112,7 +112,7 @@ def _is_believed(at: int, steps: Sequence[float], counts: Array, noise: float) -
             fitting = sum(int(counts[it]) for it in range(finer + 1) if _is_multiple(steps[it], steps[finer]))
             beside = 2 * int(width / steps[finer]) + 1
             chance = max(chance, fitting * min(1.0, beside / _ratio(step, steps[finer]).numerator) ** 2)
-    return float(counts[at]) > chance + SURE * chance**0.5 + (LEAST_MORE if chance > 0 else 0)
+    return bool(counts[at] > chance + SURE * chance**0.5 + (LEAST_MORE if chance > 0 else 0))
 
 
 def _believed(points: Array, steps: List[float], noise: float) -> Grids:
