@@ -2,10 +2,12 @@
 from __future__ import annotations
 
 import json
+import os
 import math
 import random
 import subprocess
 import sys
+from pathlib import Path
 
 import geopandas as gpd
 import numpy as np
@@ -129,7 +131,10 @@ def test_choices_that_are_none():
 
 
 def command(folder, *words):
-    return subprocess.run([sys.executable, "-m", "gandovel", *words], cwd=folder, capture_output=True, text=True)
+    """Runs `gandovel` of this tree in a folder."""
+    sources = {**os.environ, "PYTHONPATH": str(Path(__file__).resolve().parents[1] / "src")}
+    words = [sys.executable, "-m", "gandovel", *words]
+    return subprocess.run(words, cwd=folder, capture_output=True, text=True, env=sources)
 
 
 def test_the_command_ends_by_the_verdict_and_its_layer_opens_at_once(tmp_path):

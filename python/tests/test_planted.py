@@ -21,6 +21,11 @@ EACH = -(-LAYERS // len(CASES))
 FILES = ("File Geodatabase", "degrees", "feet", "hundredths of feet", "a curve")
 
 
+COARSE = ("decimetres", "50 mm")
+"""Where corners are rounded so far, a corner may touch two sides of a parcel at once: it is left alone, and a sliver is
+reported beside it (1 of 8 layers of each). Gaps and overlaps are as planted there, too."""
+
+
 @pytest.mark.parametrize("name", CASES)
 def test_what_is_planted_is_found_and_nothing_else(name, tmp_path):
     """0 missed of what is wider than twice the distance at which corners touch; 0 false."""

@@ -53,7 +53,9 @@ def folder(tmp_path_factory):
 
 
 def test_exactly_the_three_faults(folder):
-    assert (folder / "said.txt").read_text().startswith("1 gap (7.09 m2), 2 overlaps (762.27 m2, 0.46 m2); ")
+    basis, said = (folder / "said.txt").read_text().splitlines()
+    assert basis.startswith("no grid, and no noise; corners are compared exactly; ")
+    assert said.startswith("1 gap (7.09 m2), 2 overlaps (762.27 m2, 0.46 m2); ")
     gaps, overlaps = (gpd.read_file(folder / "report.gpkg", layer=name) for name in ("gaps", "overlaps"))
     assert abs(gaps.area_m2.iloc[0] - GAP) < 0.01
     assert np.allclose(sorted(overlaps.area_m2), [SMALL_OVERLAP, LARGE_OVERLAP], atol=0.01)

@@ -31,6 +31,8 @@ COMMON, CHANCE = 30.0, 0.1
 (mm)."""
 EDGES = (1e-4, 1e-3, 0.01, 0.1, 0.2, 0.5, 1.0, 2.0, 5.0, 10.0, 15.0, 20.0, 30.0, 50.0, 100.0, 150.0, 300.0)
 PROPOSED = 4
+REACHING = 0.04
+"""The least share of all pairs of a noise that lies in the upper half of its distances; of rounding it is a tenth."""
 
 
 @dataclass
@@ -60,7 +62,8 @@ def noise_of_pairs(loops: Loops, points: Array, floor: float) -> Noise:
     blurred = False
     for distance in _edges(off, exact):
         below = int(np.searchsorted(off, distance, side="right"))
-        if not blurred and _is_clear(off[below:], below, distance, exact):
+        is_reached = distance <= exact or _is_reached(off[:below], distance)
+        if not blurred and is_reached and _is_clear(off[below:], below, distance, exact):
             found.distance = 0.0 if distance <= exact else float(distance)
             return found
         blurred = blurred or _is_sharp(off[below:], below)
@@ -76,6 +79,13 @@ def _edges(off: Array, exact: float) -> List[float]:
     after = np.append(off[1:], np.inf)
     kept = (off > exact) & (off <= MOST) & (after >= APART * off)
     return [exact, *np.unique(off[kept]).tolist()]
+
+
+def _is_reached(within: Array, distance: float) -> bool:
+    """Whether the pairs below an edge are noise up to it: a share of them lies in the upper half of its distances. A few
+    that stand apart there are faults, each of which has some pairs."""
+    beyond_half = len(within) - int(np.searchsorted(within, distance / 2, side="right"))
+    return beyond_half >= REACHING * len(within)
 
 
 def _is_sharp(beyond: Array, below: int) -> bool:
