@@ -25,8 +25,6 @@ PLUGIN, PACKAGE, PAGE = ROOT / "qgis/gandovel", ROOT / "python/src/gandovel", RO
 ENDINGS = (".py", ".txt", ".svg", ".qml", ".ts")
 """What belongs to the plugin; anything else in its folder is left out."""
 PLATFORM = "linux-x86_64"
-NOT_PACKAGED = ("many", "serve")
-"""Parts of the package that the plugin has no use for."""
 
 
 def files_of(plugin: Path = PLUGIN, program: Optional[Path] = None) -> archives.Files:
@@ -40,7 +38,7 @@ def files_of(plugin: Path = PLUGIN, program: Optional[Path] = None) -> archives.
     files["gandovel/help.md"] = PAGE.read_bytes(), False
     for path in sorted(PACKAGE.rglob("*")):
         name = path.relative_to(PACKAGE)
-        if path.is_file() and "__pycache__" not in path.parts and name.parts[0] not in NOT_PACKAGED:
+        if path.is_file() and "__pycache__" not in path.parts:
             files[f"gandovel/package/gandovel/{name.as_posix()}"] = path.read_bytes(), False
     if program is not None:
         files[f"gandovel/bin/{PLATFORM}/parcel_tool"] = program.read_bytes(), True

@@ -75,7 +75,7 @@ def told_whole(shapes: Shapes, touch: float, city: Optional[Polygon] = None) -> 
     prepared = gv.prepare(frame_of(shapes), number="parcel_no", touch=touch, city=around)
     faults = gv.report(prepared).faults()
     columns = zip(faults["kind"], faults["area2_mm2"], faults["numbers"])
-    return sorted((kind, area, tuple(sorted(numbers.split(",")))) for kind, area, numbers in columns)
+    return sorted((kind, str(area), tuple(sorted(numbers.split(",")))) for kind, area, numbers in columns)
 
 
 def moved(shape: Polygon, corner: Tuple[float, float], to: Tuple[float, float]) -> Polygon:
