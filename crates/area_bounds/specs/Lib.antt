@@ -1,4 +1,3 @@
 pub mod Parts
 pub mod Edges
 pub mod Crossed
-pub mod Rounded
