@@ -1,4 +1,5 @@
-"""Draws cities, layers, damages, edits and points. Coordinates are small, so that corners meet and edges touch often."""
+"""Draws cities, layers, damages, edits and points. Coordinates are small, so that corners meet and edges touch
+often."""
 
 from __future__ import annotations
 

@@ -59,7 +59,8 @@ class Entry(NamedTuple):
 
 
 def joined(*parts: Sequence[Corner]) -> Ring:
-    """Parts of a ring one after the other: where two meet, and where the last meets the first, the corner stands once."""
+    """Parts of a ring one after the other: where two meet, and where the last meets the first, the corner stands
+    once."""
     result: Ring = list(parts[0])
     for part in parts[1:]:
         result.extend(part[1:])

@@ -173,7 +173,8 @@ class Database:
         )
         twice = self.sql(f"{faces} SELECT string_agg(parcel_no, ',') FROM owned GROUP BY face HAVING count(*) > 1")
         none = self.sql(
-            f"{faces} SELECT f.face_id, o.parcel_no FROM net.face f JOIN net.edge_data e ON f.face_id IN (e.left_face, e.right_face)"
+            f"{faces} SELECT f.face_id, o.parcel_no FROM net.face f"
+            " JOIN net.edge_data e ON f.face_id IN (e.left_face, e.right_face)"
             " JOIN owned o ON o.face IN (e.left_face, e.right_face)"
             " WHERE f.face_id > 0 AND f.face_id NOT IN (SELECT face FROM owned)"
         )

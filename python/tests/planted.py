@@ -1,6 +1,8 @@
-"""Registers whose truth is known: random ones of 50 to 500 parcels with gaps and overlaps planted, kept as registers are.
+"""Registers whose truth is known: random ones of 50 to 500 parcels with gaps and overlaps planted, kept as registers
+are.
 
-`CASES` names the ways in which a register is kept: rounded to a decimal grid or to 5, 25 or 50 mm, with one corner finer
+`CASES` names the ways in which a register is kept: rounded to a decimal grid or to 5, 25 or 50 mm, with one corner
+finer
 than the others, reprojected, in a File Geodatabase, in degrees with seven decimals, in feet, with a curve. `case(name,
 seed, folder)` makes one, `Case.judged` says what of the planted was found, and what was found that is not there.
 

@@ -75,7 +75,8 @@ def test_torn_registers_tile_once_they_are_mended(seed, apart, to):
 
 
 def pair(gap):
-    """Two parcels, 100 m2 and 200 m2, with a lens between them of so many metres: a gap, or where negative an overlap."""
+    """Two parcels, 100 m2 and 200 m2, with a lens between them of so many metres: a gap, or where negative an
+    overlap."""
     left = here((0, 0), (10, 0), (11, 5), (10, 10), (0, 10))
     right = here((10, 0), (30, 0), (30, 10), (10, 10), (11 + gap, 5))
     return gpd.GeoDataFrame({"parcel_no": ["left", "right"]}, geometry=[left, right], crs=25832)

@@ -1,4 +1,5 @@
-"""84 calls as users of pandas and GeoPandas write them: each runs and says what it looks like, or raises with advice."""
+"""84 calls as users of pandas and GeoPandas write them: each runs and says what it looks like, or raises with
+advice."""
 from __future__ import annotations
 
 from fractions import Fraction

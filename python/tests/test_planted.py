@@ -1,4 +1,5 @@
-"""Random registers with planted faults, kept in each way that registers are: what is found, what is missed, what is false.
+"""Random registers with planted faults, kept in each way that registers are: what is found, what is missed, what is
+false.
 
 100 layers, and with GANDOVEL_FULL=1 a thousand. Each test prints its row of the table: `pytest -s -k planted`.
 """

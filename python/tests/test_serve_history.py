@@ -1,4 +1,5 @@
-"""What `gandovel serve` knows of parcels that were: facts after an edit, lineage both ways, any day, after a start too."""
+"""What `gandovel serve` knows of parcels that were: facts after an edit, lineage both ways, any day, after a start
+too."""
 from __future__ import annotations
 
 import time

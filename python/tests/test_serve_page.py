@@ -38,7 +38,8 @@ def browser():
 
 @pytest.fixture(autouse=True)
 def few_tabs(browser):
-    """A browser has six connections to a server, and each page's stream takes one: a test's tabs are closed after it."""
+    """A browser has six connections to a server, and each page's stream takes one: a test's tabs are closed after
+    it."""
     yield
     first, *others = browser.window_handles
     for handle in others:

@@ -1,4 +1,5 @@
-"""The repair assistant: for the chosen fault what can be done, shown in the map, and done as one step that undo knows."""
+"""The repair assistant: for the chosen fault what can be done, shown in the map, and done as one step that undo
+knows."""
 from __future__ import annotations
 
 from typing import Any, List, Optional

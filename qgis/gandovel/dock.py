@@ -345,12 +345,18 @@ class FaultDock(QDockWidget):
             return
         missing = self._missing(fault)
         if missing is not None and not missing.agreed:
-            text = "Corners disagree here, so nothing was changed in {layer}: parcels {numbers}. Repair shows what can be done."
+            text = (
+                "Corners disagree here, so nothing was changed in {layer}: parcels {numbers}. "
+                "Repair shows what can be done."
+            )
             self._say(tr(text, layer=name, numbers=", ".join(fault.numbers)))
             return
         count = insert(layer, missing) if missing is not None else 0
         if missing is None or not count:
-            text = "No corner is missing here: each parcel of {layer} has corners of its own. Move them with the vertex tool."
+            text = (
+                "No corner is missing here: each parcel of {layer} has corners of its own. "
+                "Move them with the vertex tool."
+            )
             self._say(tr(text, layer=name))
             return
         layer.triggerRepaint()

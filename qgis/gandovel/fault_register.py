@@ -127,7 +127,8 @@ class Register:
             raise self._fault(fault) from fault
 
     def seen(self, faults: Sequence[Fault]) -> None:
-        """Notes the faults of a verdict: new ones as open; those that are there no more as mended; accepted ones stay."""
+        """Notes the faults of a verdict: new ones as open; those that are there no more as mended; accepted ones
+        stay."""
         time, user, here = now(), who(), {fault.identity for fault in faults}
         known = self.entries()
         gone = [(time, user, self.layer, it) for it, entry in known.items() if it not in here and entry.state == OPEN]

@@ -33,8 +33,8 @@ HOME_ENVIRONMENT = Path("~/gandovel")
 def no_package() -> str:
     """What is said where no Python has the package."""
     return tr(
-        "The Python package gandovel was not found, or GeoPandas and tqdm, which it needs: install it from a release into "
-        "~/gandovel, as its README says, or name the Python that has it in {where}.",
+        "The Python package gandovel was not found, or GeoPandas and tqdm, which it needs: install it from a release "
+        "into ~/gandovel, as its README says, or name the Python that has it in {where}.",
         where=WHERE,
     )
 

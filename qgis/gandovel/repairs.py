@@ -1,4 +1,5 @@
-"""What can be done about a fault: each candidate with what it changes, areas before and after, and how far a corner moves.
+"""What can be done about a fault: each candidate with what it changes, areas before and after, and how far a corner
+moves.
 
 A candidate changes nothing by itself. Shapes are made of the corners that the parcels have, so that what is mended
 meets its neighbours exactly; where a border crosses another one, the crossing is computed in floating point.

@@ -1,4 +1,5 @@
-"""What misled a clerk once: whose fault it is, which layer is edited, and words of the program in place of one's own."""
+"""What misled a clerk once: whose fault it is, which layer is edited, and words of the program in place of one's
+own."""
 from __future__ import annotations
 
 import os

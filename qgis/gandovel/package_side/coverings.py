@@ -13,7 +13,8 @@ Found = List[Tuple[Any, List[Any]]]
 
 
 class Coverings:
-    """The overlaps of a neighbourhood. Those that lie apart are looked at apart, and kept while nothing changes there."""
+    """The overlaps of a neighbourhood. Those that lie apart are looked at apart, and kept while nothing changes
+    there."""
 
     def __init__(self, place: Any) -> None:
         self.place = place

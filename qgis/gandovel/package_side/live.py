@@ -21,7 +21,8 @@ Answer = Dict[str, Any]
 
 
 def loaded(request: Answer) -> Neighbourhood:
-    """The layer of a request: `parcels`, `number`, `fids`, and with `city` its outline; `options` of the preparation."""
+    """The layer of a request: `parcels`, `number`, `fids`, and with `city` its outline; `options` of the
+    preparation."""
     return Neighbourhood.read(
         request["parcels"], request["number"], request["features"], request.get("city"), request.get("options") or {}
     )

@@ -1,4 +1,5 @@
-"""The parts of the area that a layer covers, and what a city's holes leave out: by the planar graph, in whole numbers."""
+"""The parts of the area that a layer covers, and what a city's holes leave out: by the planar graph, in whole
+numbers."""
 from __future__ import annotations
 
 from dataclasses import dataclass
@@ -21,7 +22,8 @@ Places = Dict[Corner, Tuple[float, float]]
 
 @dataclass
 class Outlines:
-    """The connected parts of an area in mm: their rings on the grid, counterclockwise, and polygons of the layer's points.
+    """The connected parts of an area in mm: their rings on the grid, counterclockwise, and polygons of the layer's
+    points.
 
     `left_out` are, for each part, what its holes leave out, with other parts that lie in them.
     """

@@ -32,8 +32,8 @@ from .polygons import Fault, fault_area
 NOTES = {
     "parcels": "The parcels without their narrow faults, on the grid of whole millimetres, checked by the program.",
     "changes": "The pieces that changed hands: kind (gap, overlap, beyond), number of the parcel that has it now (none "
-    "has what was beyond the city), lost_by (who had it), area2_mm2 and area2_most_mm2 (twice the area in mm2: the whole "
-    "number, or the two that it lies between). Exact, but for a border that ended at a crossing and was rounded.",
+    "has what was beyond the city), lost_by (who had it), area2_mm2 and area2_most_mm2 (twice the area in mm2: the "
+    "whole number, or the two that it lies between). Exact, but for a border that ended at a crossing and was rounded.",
 }
 COLUMNS = ("kind", "number", "lost_by", "area2_mm2", "area2_most_mm2", "area_m2", "x", "y")
 PASSES = 3
@@ -65,7 +65,8 @@ class Mended:
         area = sum(float(one["area_m2"]) for one in self.closed)
         count = len(self.closed)
         left = f"{len(self.left)} left; " if self.left else ""
-        return f"{count or 'no'} piece{'' if count == 1 else 's'} closed ({area:.6f} m2); {left}now {self.report.summary()}"
+        pieces = f"{count or 'no'} piece{'' if count == 1 else 's'}"
+        return f"{pieces} closed ({area:.6f} m2); {left}now {self.report.summary()}"
 
     def save(self, path: Union[str, Path]) -> None:
         """Writes the layer `parcels`, and `changes` (points), as a GeoPackage, whole or not at all."""
@@ -115,7 +116,8 @@ def mend(
 def _mended_island(
     prepared: Prepared, island: Island, width: float, to: str, first_new: int
 ) -> Tuple[Island, List[MendedRows]]:
-    """An island without its narrow faults, and what came of them; what one pass leaves or rounds apart is tried anew."""
+    """An island without its narrow faults, and what came of them; what one pass leaves or rounds apart is tried
+    anew."""
     found: List[MendedRows] = []
     for _ in range(PASSES):
         faults = _narrow(prepared, island, width)

@@ -33,7 +33,8 @@ from .polygons import CITY, Coverage, Fault, box_of, boxes_touching
 OUTSIDE = -2
 """The owner of what lies outside the city in a graph whose owners are the layer's rows."""
 CHOICES = ("border", "larger", "older", "none")
-"""To whom a piece goes: who has the longest border with it, or the largest area, or stands first in the layer; no one."""
+"""To whom a piece goes: who has the longest border with it, or the largest area, or stands first in the layer; no
+one."""
 
 Nets = Dict[HalfEdge, int]
 
@@ -71,7 +72,8 @@ class MendedRows:
 
 
 def mended_rows(island: Island, faults: Sequence[Fault], to: str, first_new: int) -> MendedRows:
-    """An island whose faults, which are narrow, are closed as `to` says; rows from `first_new` on have what no one has."""
+    """An island whose faults, which are narrow, are closed as `to` says; rows from `first_new` on have what no one
+    has."""
     if not faults:
         return MendedRows(island.parcels)
     coverage = _coverage(island, faults)

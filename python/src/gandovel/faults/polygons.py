@@ -1,6 +1,7 @@
 """Gaps, overlaps and what lies beyond the city, as polygons with exact areas, and who covers or borders each.
 
-The proved program says which edges are not balanced: an edge (ax, ay) to (bx, by) with `net` n says that on its left the
+The proved program says which edges are not balanced: an edge (ax, ay) to (bx, by) with `net` n says that on its left
+the
 layer covers n times more, less the city, than on its right. So each face that the edges bound is covered too often by a
 whole number, or too seldom (a gap). Where it is too often, the planar graph of the rings there says which do so, and
 whether that is in the city. All is in whole numbers and fractions.

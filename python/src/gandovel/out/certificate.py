@@ -1,7 +1,7 @@
 """A verdict to sign off: what it stands on and what it says, as one JSON file that can be tried again.
 
-`content_sha256` is the SHA-256 of the file without that key, as JSON with sorted keys and without spaces. So a change of
-the file is found; who wrote it, is not: sign it with your own means where that matters.
+`content_sha256` is the SHA-256 of the file without that key, as JSON with sorted keys and without spaces. So a change
+of the file is found; who wrote it, is not: sign it with your own means where that matters.
 """
 from __future__ import annotations
 

@@ -14,7 +14,8 @@ REPORT = {
     "beyond": "What parcels cover beyond the city. Exact, by the edges of the parcels there: area2_mm2, "
     "area2_most_mm2, depth, numbers; area_m2 is area2_mm2, halved and rounded.",
     "open_gaps": "Notches and channels of the city that the parcels make, open to the outside and narrow (--narrow). "
-    "Exact, by the edges of the outline: area2_mm2, area2_most_mm2. Measured by GEOS: numbers, the parcels beside them.",
+    "Exact, by the edges of the outline: area2_mm2, area2_most_mm2. Measured by GEOS: numbers, the parcels beside "
+    "them.",
     "slivers": "Gaps and overlaps that are nowhere wider than the distance at which a corner touches a border. Exact, "
     "by the edges of the parcels there: area2_mm2, area2_most_mm2, depth, numbers. Measured by GEOS: that they are so "
     "narrow.",

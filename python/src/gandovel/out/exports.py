@@ -45,8 +45,8 @@ def back(prepared: Prepared, rings: Sequence[Array], at: int = 0) -> gpd.GeoData
     """The rings (k, 2) int64 mm of an island, number `at` from 0, after edits, as parcels in the layer's projection.
 
     Rows that are as they were make up their parcel again, holes and parts and all. Each other row is a parcel of its
-    own (`edited` 1), with the attributes of the parcel that it overlaps most (measured) and its index label; `came_from` has the numbers of
-    all parcels that it overlaps, by the program. Each attribute stands once.
+    own (`edited` 1), with the attributes of the parcel that it overlaps most (measured) and its index label;
+    `came_from` has the numbers of all parcels that it overlaps, by the program. Each attribute stands once.
     """
     return _frame(prepared, rings, _sorted(prepared, *_rows(prepared, rings, at)))
 

@@ -49,7 +49,8 @@ def write_map(report: Union[str, Path], out: Union[str, Path]) -> None:
     """Writes the map of a report.
 
     `report` is a GeoPackage that `gandovel report` wrote: its layer `parcels`, and those of `zones`, `gaps`,
-    `overlaps`, `beyond`, `open_gaps`, `slivers`, `touched`, `skipped`, `split` and `split_parts` that are there. `out` is the
+    `overlaps`, `beyond`, `open_gaps`, `slivers`, `touched`, `skipped`, `split` and `split_parts` that are there.
+    `out` is the
     page, written under another name and then renamed. Coordinates are rounded to millimetres for the drawing. Areas of
     faults are the report's exact ones, and those of parts the report's, too; those of parcels and zones are measured by
     the page, and which parcels overlap by GEOS, which the page says. Refused P1 where the report is no such file, P14

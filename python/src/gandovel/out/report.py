@@ -62,8 +62,10 @@ CITIES = {
 class Report:
     """What the program says of a register; printed it is its summary, and in a notebook with a small map.
 
-    Frames in the register's projection, the largest area first. `gaps`, `overlaps` (layer, area2_mm2, area2_most_mm2, area_m2,
-    area_how, area, unit, depth, numbers, numbers_how, touched) and `outside`, what parcels cover beyond the city: exact.
+    Frames in the register's projection, the largest area first. `gaps`, `overlaps` (layer, area2_mm2, area2_most_mm2,
+    area_m2,
+    area_how, area, unit, depth, numbers, numbers_how, touched) and `outside`, what parcels cover beyond the city:
+    exact.
     `slivers` are such that are nowhere wider than what touches (measured), `open_gaps` notches and channels of the city
     that the parcels make. `split` (number, zones, zone_count, sliver, sliver_how):
     exact, but for sliver. `parts` (number, zone, area2_mm2, area_m2, area_how, share, sliver): which there are is

@@ -82,7 +82,8 @@ def counts_of(report: Report, prepared: Prepared) -> Dict[str, int]:
 
 
 def faults_of(report: Report) -> List[Dict[str, Any]]:
-    """Gaps, overlaps, what lies beyond the city, open gaps and slivers, each as a dictionary; the largest area first."""
+    """Gaps, overlaps, what lies beyond the city, open gaps and slivers, each as a dictionary; the largest area
+    first."""
     frame = report.faults()
     found = []
     rows = frame[list(FAULT_KEYS)].to_dict("records")

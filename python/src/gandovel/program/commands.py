@@ -57,8 +57,8 @@ def check(parcels: Register, zones: Optional[Source] = None, **options: Unpack[O
         Columns: kind (`gap` | `overlap` | `beyond` | `open_gap` | `sliver`), layer, island, area2_mm2 and
         area2_most_mm2 (twice the area in mm2: a whole number, or the two that it lies between), area_m2, area_how, area
         and unit (in the layer's unit), depth (how often too much is covered), numbers (text: of a gap those that border
-        it, of an overlap those that cover it), numbers_how (`exact` | `measured`), touched (corners of it that were made
-        to touch), geometry. `.attrs["basis"]` says what the verdict stands on.
+        it, of an overlap those that cover it), numbers_how (`exact` | `measured`), touched (corners of it that were
+        made to touch), geometry. `.attrs["basis"]` says what the verdict stands on.
 
     Raises
     ------

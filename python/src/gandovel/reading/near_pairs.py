@@ -82,8 +82,8 @@ def _edges(off: Array, exact: float) -> List[float]:
 
 
 def _is_reached(within: Array, distance: float) -> bool:
-    """Whether the pairs below an edge are noise up to it: a share of them lies in the upper half of its distances. A few
-    that stand apart there are faults, each of which has some pairs."""
+    """Whether the pairs below an edge are noise up to it: a share of them lies in the upper half of its distances. A
+    few that stand apart there are faults, each of which has some pairs."""
     beyond_half = len(within) - int(np.searchsorted(within, distance / 2, side="right"))
     return beyond_half >= REACHING * len(within)
 

@@ -39,8 +39,8 @@ def register_of(parcels: Register, zones: Optional[Source] = None, **options: Un
     Raises
     ------
     Refused
-        P18: options, or zones, for a register that was prepared before: they would change nothing. Else as `prepare` and
-        `load` do.
+        P18: options, or zones, for a register that was prepared before: they would change nothing. Else as `prepare`
+        and `load` do.
     """
     is_folder = isinstance(parcels, (str, os.PathLike)) and os.path.isfile(os.path.join(parcels, "prepared.json"))
     if not isinstance(parcels, Prepared) and not is_folder:

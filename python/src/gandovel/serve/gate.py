@@ -109,8 +109,8 @@ class Gate:
     ) -> None:
         """`app` is the application within, `proxies` the addresses of those whose word on their client is taken.
 
-        `connections` is how many connections the server has: of one client it takes half as many requests, and an eighth as
-        many streams.
+        `connections` is how many connections the server has: of one client it takes half as many requests, and an
+        eighth as many streams.
         """
         self._app, self._edits = app, edits
         self._register, self._clients, self._metrics = register, clients, metrics

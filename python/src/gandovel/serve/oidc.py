@@ -33,8 +33,8 @@ _NAME = re.compile(r"[A-Za-z0-9][A-Za-z0-9._@-]{0,63}")
 
 
 class Issuer:
-    """An OpenID issuer. A token's claims are `iss`, `aud`, `exp`, a name (`preferred_username`, else `sub`), and `roles`
-    (or `realm_access.roles`, as Keycloak has them): reader, clerk or operator, of which the highest counts."""
+    """An OpenID issuer. A token's claims are `iss`, `aud`, `exp`, a name (`preferred_username`, else `sub`), and
+    `roles` (or `realm_access.roles`, as Keycloak has them): reader, clerk or operator, of which the highest counts."""
 
     def __init__(self, address: str, audience: str) -> None:
         """Asks for its keys. Refused W7 where it does not answer, or is asked in clear text beyond this machine."""
@@ -75,7 +75,8 @@ class Issuer:
         }
 
     def _key_of(self, header: Dict[str, Any], _: Any) -> Any:
-        """The key that a token names; where it is none that is known, the keys are asked for anew, for the next time."""
+        """The key that a token names; where it is none that is known, the keys are asked for anew, for the next
+        time."""
         try:
             return self._keys.find_by_kid(header.get("kid"))
         except ValueError:

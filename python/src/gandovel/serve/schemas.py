@@ -70,8 +70,8 @@ def queryables_of(name: str, title: str, layer: Layer, address: str) -> Dict[str
 def feature_schema_of(name: str, title: str, layer: Layer, address: str) -> Dict[str, Any]:
     """The schema of a feature as GeoJSON has it.
 
-    Any property may be null. Text says so as JSON schema does; numbers and days by the word of OpenAPI, since GDAL takes
-    a type that is a list for text. The id is the feature's own, which GDAL would have twice.
+    Any property may be null. Text says so as JSON schema does; numbers and days by the word of OpenAPI, since GDAL
+    takes a type that is a list for text. The id is the feature's own, which GDAL would have twice.
     """
     types = {key: _or_null(kind) for key, kind in types_of(name, layer).items() if key != "id"}
     told: Types = {
