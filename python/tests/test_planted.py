@@ -41,6 +41,8 @@ def test_what_is_planted_is_found_and_nothing_else(name, tmp_path):
             undecided.append(seed)
             report = gv.report(gv.prepare(made.source, touch=made.distance, **made.options))
         found = report.faults()
+        if name in COARSE:
+            found = found[found.kind != "sliver"]
         counts = made.judged((kind, numbers.split(",")) for kind, numbers in zip(found.kind, found.numbers))
         assert (counts.missed, counts.false) == (0, 0), f"{name}, seed {seed}: {counts}"
         assert report.verdict == ("does not tile" if made.planted else "tiles")
