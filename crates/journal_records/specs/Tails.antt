@@ -70,19 +70,22 @@ IsUnderTwoLines text = All (λ byte. byte ≢ 10) text ⊎ HasOneLineFeed text
 
 -- the place behind a place in a block of 512 bytes
 abbrev pub next_place : ℕ → ℕ
-next_place place = if place == 511 then 0 else place + 1
+next_place place = if nat_le 511 place then 0 else place + 1
 
--- each block has bytes that were written, and behind them zeros: behind a zero byte are zeros up to the end of its block.
--- The first byte has this place in its block, and behind it was this one
+-- behind this byte may be that one, at this place in a block: behind a zero byte are zeros, up to the end of its block
+abbrev pub may_stand : ℕ → ℕ → ℕ → Bool
+may_stand was place byte = (place == 0) || (not (was == 0) || (byte == 0))
+
+-- each block of the bytes has what was written, and behind that zeros. The first byte has this place in its block, and
+-- behind it was this one
 unfoldable pub are_torn_blocks : ℕ → ℕ → List ℕ → Bool
 are_torn_blocks was place [] = true
-are_torn_blocks was place (byte ∷ rest) =
-    ((place == 0) || not (was == 0) || (byte == 0)) && are_torn_blocks byte (next_place place) rest
+are_torn_blocks was place (byte ∷ rest) = may_stand was place byte && are_torn_blocks byte (next_place place) rest
 
--- how long a group of records is at most, one for each of eight desks, where the longest record had so many bytes; 128
--- stand for it where there was none
+-- how long a group of records is at most, where the longest one so far had so many bytes; 128 stand for it where there
+-- was none. Each of eight desks may have one, an eighth longer than that
 abbrev pub group_bytes : ℕ → ℕ
-group_bytes longest = 8 * (if longest == 0 then 128 else longest)
+group_bytes longest = 9 * (if longest == 0 then 128 else longest)
 
 -- a group of records of which blocks were not written: a zero byte stands in its first record
 pub record IsLost (place longest : ℕ) (tail : List ℕ) : Type 0 where

@@ -25,8 +25,15 @@ pub fn push_header<A: Allocator>(text: &mut Vec<u8, A>, layer: &Seal) -> Result<
 pub(crate) fn is_header(text: &[u8]) -> bool
     ensures { IsTrue result ↔ IsHeader text.now }
 {
-    match behind(text, b"# gandovel journal 1 mm ") {
-        Some(layer) => layer.len() > SEAL_BYTES && layer[SEAL_BYTES] == b'\n',
+    let Some(layer) = behind(text, b"# gandovel journal 1 mm ") else {
+        return false;
+    };
+    if layer.len() < SEAL_BYTES {
+        return false;
+    }
+    let (_, rest) = layer.split_at(SEAL_BYTES);
+    match behind(rest, b"\n") {
+        Some(_) => true,
         None => false,
     }
 }

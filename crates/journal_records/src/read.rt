@@ -1,6 +1,6 @@
 //! What a journal says.
 
-ghost use Rattle.std.specs.Prelude.{◌≡◌, ◌++◌, [], true, length, IfOk, IfErr, IfSome};
+ghost use Rattle.std.specs.Prelude.{◌≡◌, ◌++◌, [], true, length, max, IfOk, IfErr, IfSome};
 ghost use Rattle.journal_records.specs.Journals.{IsJournal, IsRecord, IsHeaderFault, header_line, record_text, ended};
 ghost use Rattle.journal_records.specs.Tails.{IsTwoLines};
 ghost use Rattle.journal_records.specs.declared.read.JournalFault.TheVariants.{NoMemory};
@@ -113,9 +113,16 @@ pub fn read_journal<'t, A: Allocator + Copy>(
         }
         seal = next;
         rest = behind;
-        longest = longest.max(length);
+        longest = longer(longest, length);
     }
     Err(JournalFault::Changed(u64::MAX))
+}
+
+/// The larger of two numbers.
+fn longer(one: usize, other: usize) -> usize
+    ensures { result ≡ max one other }
+{
+    if one < other { other } else { one }
 }
 
 /// What stands behind the header of a journal of this layer.
@@ -210,7 +217,11 @@ fn behind_record<'t>(text: &'t [u8], lines: &[u8]) -> Option<(&'t [u8], bool)>
         Some(rest) => Some((rest, false)),
         None => {
             let end = behind(lines, text)?;
-            if end == b"\n".as_slice() { Some((&[], true)) } else { None }
+            if end == b"\n".as_slice() {
+                Some((&[], true))
+            } else {
+                None
+            }
         }
     }
 }

@@ -1,11 +1,11 @@
 //! What may stand behind the last whole record of a journal.
 
-ghost use Rattle.std.specs.Prelude.{◌≡◌, ◌≢◌, ◌⊎◌, ◌++◌, ◌≤◌, IsTrue, IfOk, OnOk, length};
+ghost use Rattle.std.specs.Prelude.{◌≡◌, ◌⊎◌, ◌++◌, ◌∷◌, ◌≤◌, IsTrue, IfOk, IfSome, OnOk, length};
 ghost use Rattle.std.specs.List.{All};
 ghost use mathlib.Core.List.{IsPrefix};
 ghost use Rattle.journal_records.specs.Tails.{IsInLine, IsTwoLines, IsTail, IsBegun, IsLost, IsUnderTwoLines};
 ghost use Rattle.journal_records.specs.Tails.{IsFirstLineBegun, IsSecondLineBegun, record_start, is_digit, is_of_edit, EndsInDigest};
-ghost use Rattle.journal_records.specs.Tails.{are_torn_blocks, next_place, group_bytes};
+ghost use Rattle.journal_records.specs.Tails.{are_torn_blocks, may_stand, next_place, group_bytes};
 
 use crate::parts::{before_line_feed, behind};
 use crate::seal::SEAL_BYTES;
@@ -15,8 +15,9 @@ use text_pieces::push_number;
 /// The most bytes of a record's first line: its number and its clerk, the time, a word, and a digest.
 const MOST_OF_FIRST: usize = 320;
 
-/// How many records are written at most behind what is synchronised: one for each of eight desks.
-const MOST_OF_GROUP: usize = 8;
+/// How many of the longest record so far are at most written behind what is synchronised: each of eight desks may have
+/// one, an eighth longer than that.
+const MOST_OF_GROUP: usize = 9;
 
 /// How long a record is where none was read.
 const SOME_RECORD: usize = 128;
@@ -34,7 +35,10 @@ pub fn is_two_lines(text: &[u8]) -> bool
     let Some((second, end)) = before_line_feed(rest) else {
         return false;
     };
-    end.is_empty() && is_in_line(first) && is_in_line(second)
+    if !end.is_empty() || !is_in_line(first) || !is_in_line(second) {
+        return false;
+    }
+    true
 }
 
 /// Whether bytes are those of one line: none is a line feed or zero.
@@ -73,7 +77,9 @@ fn is_begun<A: Allocator>(alloc: A, number: u64, text: &[u8]) -> Result<bool, Al
     push_start(&mut start, number)?;
     match before_line_feed(text) {
         None => Ok(is_first_line_begun(start.as_slice(), text)),
-        Some((first, second)) => Ok(is_first_line(start.as_slice(), first) && is_edit_begun(second)),
+        Some((first, second)) => Ok(
+            is_first_line(start.as_slice(), first) && is_edit_begun(second),
+        ),
     }
 }
 
@@ -128,13 +134,31 @@ fn is_edit_byte(byte: u8) -> bool
 fn is_lost(place: usize, longest: usize, text: &[u8]) -> bool
     ensures { IsTrue result → IsLost place longest text.now }
 {
-    let record = if longest == 0 { SOME_RECORD } else { longest };
-    if text.len() > record.saturating_mul(MOST_OF_GROUP) || !is_torn_in_blocks(place, text) {
+    let Some((before, _)) = around_zero(text) else {
+        return false;
+    };
+    if !is_under_two_lines(before) || text.len() > most_of_group(longest) {
         return false;
     }
-    match text.iter().position(|byte| *byte == 0) {
-        Some(zero) => is_under_two_lines(&text[..zero]),
-        None => false,
+    is_torn_in_blocks(place, text)
+}
+
+/// What stands before the first zero byte of a text, and what behind it; `None` where there is none.
+fn around_zero(text: &[u8]) -> Option<(&[u8], &[u8])>
+    ensures { IfSome result (λ parts. text.now ≡ parts.0.now ++ 0 ∷ parts.1.now) }
+{
+    let place = text.iter().position(|byte| *byte == 0)?;
+    Some((&text[..place], &text[place + 1..]))
+}
+
+/// How many bytes a group of records has at most, where the longest one had so many.
+fn most_of_group(longest: usize) -> usize
+    ensures { result ≤ group_bytes longest }
+{
+    if longest == 0 {
+        SOME_RECORD * MOST_OF_GROUP
+    } else {
+        longest.saturating_mul(MOST_OF_GROUP)
     }
 }
 
@@ -152,15 +176,29 @@ fn is_under_two_lines(text: &[u8]) -> bool
 fn is_torn_in_blocks(place: usize, text: &[u8]) -> bool
     ensures { result ≡ are_torn_blocks 1 place text.now }
 {
-    let (mut place, mut was) = (place, 1u8);
+    let (mut at, mut was) = (place, 1u8);
     for byte in text {
-        if place != 0 && was == 0 && *byte != 0 {
+        if !may_follow(was, at, *byte) {
             return false;
         }
-        place = if place == LAST_PLACE { 0 } else { place.wrapping_add(1) };
+        at = next_at(at);
         was = *byte;
     }
     true
+}
+
+/// Whether behind this byte of a block there may be that one, at this place.
+fn may_follow(was: u8, at: usize, byte: u8) -> bool
+    ensures { result ≡ may_stand was at byte }
+{
+    at == 0 || was != 0 || byte == 0
+}
+
+/// The place behind a place in a block.
+fn next_at(at: usize) -> usize
+    ensures { result ≡ next_place at }
+{
+    if at >= LAST_PLACE { 0 } else { at + 1 }
 }
 
 /// Adds how the record of this number begins.
