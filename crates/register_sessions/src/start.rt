@@ -6,7 +6,9 @@ ghost use Rattle.desk_lock.specs.Offices.{origin_of};
 ghost use Rattle.session_rooms.specs.Starts.{IsBehind, IsMarked};
 ghost use Rattle.register_sessions.specs.StartFaults.{IsToldOf, IsToldRefused};
 
-use crate::found_journal::{FoundJournal, find_journal, make_next, remove_next, set_aside, take_place};
+use crate::found_journal::{
+    FoundJournal, find_journal, make_next, remove_next, set_aside, take_place,
+};
 use crate::journal_file::{DiskFile, DiskSynchroniser, Machine};
 use crate::offices::{clerks_of, seat_all, windows_of};
 use crate::operator::Operator;
@@ -84,7 +86,10 @@ pub fn serve_session<
 
 /// What reads as empty, and takes all that is written: it gets the lowest number that is free.
 fn open_null<F: Files<File = File>>(files: &F) -> io::Result<File> {
-    OpenOptions::new().read(true).write(true).open(files, "/dev/null")
+    OpenOptions::new()
+        .read(true)
+        .write(true)
+        .open(files, "/dev/null")
 }
 
 /// The same at these pipes.
@@ -180,11 +185,19 @@ fn tell_old<'h, R: Eprint, H: Allocator>(
     let StartFault::NoJournal(path) = fault else {
         return;
     };
-    if read_clerk(heap, text).is_ok() {
+    if has_edits(heap, text) {
         // Where standard error fails there is nobody left to tell.
         let _ = eprintln!(rt;
             "note: {path}: lines of edits, as a journal of version 1.0; --clerk {path} --journal NEW begins with them"
         );
+    }
+}
+
+/// Whether a text is lines of edits, of at least one.
+fn has_edits<A: Allocator + Copy>(alloc: A, text: &[u8]) -> bool {
+    match read_clerk(alloc, text) {
+        Ok(edits) => !edits.is_empty(),
+        Err(_) => false,
     }
 }
 
@@ -274,7 +287,8 @@ fn begin_journal<'a, 'h, R: Files<File = File> + Eprint, P: Machine, H: Allocato
         }
     };
     if tell_torn(rt, heap, replayed, &found).is_err()
-        || take_place(rt, heap, &found, writer.file().file()).is_err() {
+        || take_place(rt, heap, &found, writer.file().file()).is_err()
+    {
         remove_next(rt, heap, &found);
         return Err(StartFault::JournalUnreadable(path));
     }
@@ -293,10 +307,7 @@ fn fill_next<'a, 'h, P: Machine, H: Allocator>(
     replayed: &Replayed,
     machine: &'a P,
     found: &FoundJournal<'a, &'h H>,
-) -> Result<
-    (JournalWriter<DiskFile, &'h H>, DiskSynchroniser<'a, P>),
-    StartFault<'a, &'h H>,
->
+) -> Result<(JournalWriter<DiskFile, &'h H>, DiskSynchroniser<'a, P>), StartFault<'a, &'h H>>
     requires { IsMarked (Bor H) found.now.text.items replayed.now layer.now }
 {
     let path = found.path;
@@ -340,7 +351,9 @@ fn tell_torn<'a, 'h, R: Files<File = File> + Eprint, H: Allocator>(
         );
     }
     if replayed.lacks_end {
-        let _ = eprintln!(rt; "note: {path}: the end of the last line was missing, and is completed");
+        let _ = eprintln!(rt;
+            "note: {path}: the end of the last line was missing, and is completed"
+        );
     }
     Ok(())
 }
