@@ -4,7 +4,6 @@ from __future__ import annotations
 
 import os
 import random
-import resource
 import shutil
 import signal
 import subprocess
@@ -17,7 +16,7 @@ import pytest
 import gandovel as gv
 from gandovel.journals import journal_of
 from gandovel.tool import find_tool
-from session_town import FULL, SECONDS, Town, preload, preloaded
+from session_town import FULL, SECONDS, Raw, Town, preload, preloaded
 from test_session_disk import disk, lost  # noqa: F401  (a fixture)
 
 pytestmark = pytest.mark.usefixtures("in_time")
@@ -231,21 +230,19 @@ def words(town: Town, *more: object) -> List[str]:
     return [find_tool(), *map(str, named)]
 
 
-def test_a_start_with_a_clerks_file_that_is_killed(town, tmp_path):
-    """All of the clerk's file stands in the journal, or none of it."""
-    clerk, draw = tmp_path / "edits.txt", random.Random(4)
+@pytest.mark.parametrize("at", [1, 2, 30, 61])
+def test_a_start_with_a_clerks_file_that_is_killed(town, tmp_path, tmp_path_factory, at):
+    """All of the clerk's file stands in the journal, or none of it: the next start begins it."""
+    clerk = tmp_path / "edits.txt"
     clerk.write_text("".join(f"{line}\n" for line in edits(60)))
-    for _ in range(40 if FULL else 8):
-        town.journal.unlink(missing_ok=True)
-        starting = subprocess.Popen(words(town, "--clerk", clerk), stdin=subprocess.PIPE, stdout=subprocess.PIPE)
-        time.sleep(draw.random() * 0.1)
-        starting.send_signal(signal.SIGKILL)
-        starting.communicate()
-        assert len(town.lines()) in (0, 60)
-    if not town.journal.exists() or not town.journal.stat().st_size:
-        answered = subprocess.run(words(town, "--clerk", clerk), stdin=subprocess.DEVNULL, capture_output=True)
-        assert answered.stdout == b"ready 60\nclosed 60\n"
-    assert town.lines() == edits(60)
+    library = preloaded(tmp_path_factory.mktemp("preload"), "failing_disk.c")
+    dies = {"LD_PRELOAD": str(library), "FAILS": "dies", "AT": str(at), "JOURNAL": str(town.journal)}
+    command = words(town, "--clerk", clerk)
+    killed = subprocess.run(command, env={**os.environ, **dies}, stdin=subprocess.DEVNULL, capture_output=True)
+    assert (killed.returncode, killed.stdout) == (-signal.SIGKILL, b"")
+    assert town.lines() == []
+    answered = subprocess.run(command, stdin=subprocess.DEVNULL, capture_output=True)
+    assert answered.stdout == b"ready 60\nclosed 60\n" and town.lines() == edits(60)
 
 
 @pytest.mark.parametrize("closed", ["1>&-", "2>&-", "0<&-", "0<&- 1>&- 2>&-"])
@@ -255,7 +252,9 @@ def test_standard_files_that_are_closed_at_the_start(town, closed):
     command = f"echo {edits(1, 3)[0]!r} | exec {' '.join(words(town))} {closed}"
     subprocess.run(["/bin/sh", "-c", command], capture_output=True, timeout=SECONDS)
     assert town.lines() == edits(2 if "0<" in closed else 3)
-    assert [len(it.read_bytes()) for it in asides(town)] == [len(town.text_of(*edits(3))[:-20]) - len(town.text_of(*edits(2)))]
+    assert [len(it.read_bytes()) for it in asides(town)] == [
+        len(town.text_of(*edits(3))[:-20]) - len(town.text_of(*edits(2)))
+    ]
 
 
 def test_a_clock_before_1970(town, monkeypatch, tmp_path_factory):
@@ -274,16 +273,22 @@ def test_a_journal_of_version_one(town):
     assert f"--clerk {town.journal} --journal NEW" in refused.stderr
 
 
-def test_a_close_without_memory_wakes_idle_desks(town):
-    """Nothing is asked of the heap to wake them."""
-    with town.session("anna", "bert", "carl") as session, session.desk("anna", SECONDS) as desk:
-        desk.ask(edits(1)[0])
-        resource.prlimit(session.pid, resource.RLIMIT_AS, (1, 1))
-        begun = time.monotonic()
-        session.timeout = 20
+def test_a_close_without_memory_wakes_idle_desks(town, tmp_path, tmp_path_factory):
+    """Nothing is asked of the heap to wake them, with a client that is idle, or without."""
+    for name in ("anna", "bert"):
+        for end in (".in", ".out"):
+            os.mkfifo(tmp_path / f"{name}{end}", 0o600)
+    refused, library = tmp_path / "refused", preloaded(tmp_path_factory.mktemp("preload"), "no_memory.c")
+    command = words(town, "--desk", tmp_path / "anna", "--desk", tmp_path / "bert")
+    memory = {**os.environ, "LD_PRELOAD": str(library), "REFUSED": str(refused)}
+    with subprocess.Popen(command, env=memory, stdin=subprocess.PIPE, stdout=subprocess.PIPE) as running:
         try:
-            session.close()
-        except gv.Error:
-            pass
-        assert time.monotonic() < begun + 20
+            assert running.stdout.readline() == b"ready 0\n"
+            with Raw(str(tmp_path / "anna")) as anna:
+                assert anna.ask(f"{edits(1)[0]}\n".encode()) == [b"ok 1 out 1 2 new 65"]
+                refused.touch()
+                running.stdin.close()
+                running.wait(20)
+        finally:
+            running.kill()
     assert town.lines() == edits(1)

@@ -1,5 +1,7 @@
 //! The file of a journal on the disk.
 
+ghost use Rattle.std.specs.Prelude.{◌≡◌};
+
 use city_layers::Disk;
 use journal_writers::{FileFailed, FileId, JournalFile, Synchroniser, Written};
 use session_rooms::Clocked;
@@ -78,7 +80,9 @@ impl DiskFile {
     }
 
     /// Adds bytes at the end of the file, unless somebody else has written to it.
-    fn add(&mut self, more: &[u8]) -> io::Result<()> {
+    fn add(&mut self, more: &[u8]) -> io::Result<()>
+        ensures { self.new.id ≡ self.old.id }
+    {
         if traces_of(&self.file.metadata()?) != self.left {
             return Err(io::Error::from(ErrorKind::InvalidData));
         }
