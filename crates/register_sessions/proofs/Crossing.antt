@@ -36,9 +36,9 @@ door_sync = search (sendable, own_crosses) depth 20
 file_send : IsSend DiskFile.the_field.row
 file_send = search (sendable, own_crosses) depth 20
 
-journal_sync : (F A K : RattleType) (f : files.Ghosts F.Denot) (a : Ghosts A.Denot) → IsSend F → IsSync K
+journal_sync : (F A K : RattleType) (f : files.Ghosts F.Denot) (a : Ghosts A.Denot) → IsSend F → IsSend K → IsSync K
     → IsSync (Journal.the_field F A K f a).row
-journal_sync F A K f a s y = search (sendable, own_crosses) depth 20
+journal_sync F A K f a s l y = search (sendable, own_crosses) depth 20
 
 paths_sync : (A : RattleType) (a : Ghosts A.Denot) → IsSync A → IsSync (Paths.the_field A a).row
 paths_sync A a y = search (sendable, crosses, own_crosses) depth 20
@@ -61,7 +61,7 @@ module _ (H J : RattleType) (g : Ghosts H.Denot) (n : offices.Ghosts J.Denot H.D
     pub desk_send : (p κ : NamedLft) → IsSend (Desk.the_field p κ H J g n h).row
     desk_send p κ = search (chair_send, paths_sync, sendable, own_crosses) depth 20
 
-  module _ (R K : RattleType) (y : IsSync H) (f : Frees g g.dealloc_token) (r : IsSync R) (k : IsSync K) where
+  module _ (R K : RattleType) (y : IsSync H) (f : Frees g g.dealloc_token) (r : IsSync R) (l : IsSend K) (k : IsSync K) where
     room_sync : (F : RattleType) (c : files.Ghosts F.Denot) (ρ κ : NamedLft) → IsSend F → IsSync (Room.the_field ρ κ H J R F K n h g c).row
     room_sync F c ρ κ s = search (office_sync, journal_sync, door_sync, sendable, own_crosses) depth 20
 
