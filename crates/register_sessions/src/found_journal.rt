@@ -156,17 +156,10 @@ fn is_left_over<F: Files<File = File>>(files: &F, path: &str) -> io::Result<bool
     }
     let file = File::open(files, path)?;
     let mut first = [0; 24];
-    let (mut file, mut length) = (&file, 0);
-    for _ in 0..first.len() {
-        match file.read(&mut first[length..])? {
-            0 => break,
-            read => length += read,
-        }
-    }
-    if BEGINNING.starts_with(&first[..length]) {
-        Ok(true)
-    } else {
-        Err(io::Error::from(ErrorKind::AlreadyExists))
+    let length = (&file).read(&mut first)?;
+    match first.get(..length) {
+        Some(read) if BEGINNING.starts_with(read) => Ok(true),
+        _ => Err(io::Error::from(ErrorKind::AlreadyExists)),
     }
 }
 
