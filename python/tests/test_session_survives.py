@@ -14,8 +14,7 @@ from typing import Callable, List
 import pytest
 
 import gandovel as gv
-from gandovel.tool import find_tool
-from session_town import FULL, SECONDS, Raw, Town, preload, preloaded
+from session_town import FULL, SECONDS, Raw, Town, find_tool, preload, preloaded
 from test_session_disk import disk, lost  # noqa: F401  (a fixture)
 
 pytestmark = pytest.mark.usefixtures("in_time")
