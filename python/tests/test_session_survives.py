@@ -14,9 +14,7 @@ from typing import Callable, List
 import pytest
 
 import gandovel as gv
-from gandovel.journals import journal_of
-from gandovel.tool import find_tool
-from session_town import FULL, SECONDS, Raw, Town, preload, preloaded
+from session_town import FULL, SECONDS, Raw, Town, find_tool, preload, preloaded
 from test_session_disk import disk, lost  # noqa: F401  (a fixture)
 
 pytestmark = pytest.mark.usefixtures("in_time")
@@ -219,7 +217,7 @@ def on_disk(image: Path, folder: Path, name: str) -> List[str]:
     place.mkdir(exist_ok=True)
     subprocess.run(["mount", "-o", "loop", image, place], check=True)
     try:
-        return [record.edit for record in journal_of((place / name).read_bytes()).records]
+        return [record.edit for record in gv.read_journal(place / name).records]
     finally:
         subprocess.run(["umount", place], check=True)
 

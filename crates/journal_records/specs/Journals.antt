@@ -1,7 +1,7 @@
 -- The journal of a register as a text (this product's own). Digests are SHA-256 (FIPS
 -- 180-4), in lower-case hexadecimal digits.
-use Rattle.std.specs.Prelude.{◌≡◌, ◌≢◌, ⊤, ℕ, ◌+◌, ◌-◌, ◌%◌, ◌==◌, if◌then◌else◌, List, [], ◌∷◌, ◌++◌, length, codes, decimal}
-use Rattle.std.specs.Prelude.{max, Bool, false, true}
+use Rattle.std.specs.Prelude.{◌≡◌, ◌≢◌, ⊤, ℕ, ◌+◌, ◌-◌, ◌%◌, ◌==◌, if◌then◌else◌, List, [], ◌∷◌, ◌++◌}
+use Rattle.std.specs.Prelude.{length, codes, decimal, max, Bool, false, true}
 use Rattle.sha2.specs.Sha256.{sha256}
 use Rattle.hex.specs.Hex.{encode_lower}
 use Rattle.ring_edits.specs.declared.edit.Edit.{Edit}
@@ -63,7 +63,8 @@ AreNumbered number (first ∷ others) = (first.stamp.number ≡ number) × AreNu
 abbrev pub longest : {A : Type 0} → List ℕ → List (Record A) → ℕ
 longest before [] = 0
 longest before (first ∷ others) =
-    max (length (record_text before first.stamp first.edit)) (longest (record_seal before first.stamp first.edit) others)
+    max (length (record_text before first.stamp first.edit))
+    (longest (record_seal before first.stamp first.edit) others)
 
 -- each is two lines
 abbrev pub AreTwoLines : {A : Type 0} → List ℕ → List (Record A) → Type 0

@@ -1,6 +1,6 @@
 -- What may stand behind the last whole record of a journal (this product's own). A line ends with a line feed (10).
-use Rattle.std.specs.Prelude.{◌≡◌, ◌≢◌, ◌⊎◌, ⊤, ℕ, ◌+◌, ◌*◌, ◌≤◌, ◌==◌, ◌||◌, ◌&&◌, not, IsTrue, Bool, true, if◌then◌else◌}
-use Rattle.std.specs.Prelude.{List, [], ◌∷◌, ◌++◌, length, codes, decimal, nat_le}
+use Rattle.std.specs.Prelude.{◌≡◌, ◌≢◌, ◌⊎◌, ⊤, ℕ, ◌+◌, ◌*◌, ◌≤◌, ◌==◌, ◌||◌, ◌&&◌, not}
+use Rattle.std.specs.Prelude.{IsTrue, Bool, true, if◌then◌else◌, List, [], ◌∷◌, ◌++◌, length, codes, decimal, nat_le}
 use Rattle.std.specs.List.{All}
 use mathlib.Core.List.{IsPrefix}
 
@@ -22,7 +22,8 @@ is_digit byte = (nat_le 48 byte && nat_le byte 57) || (nat_le 97 byte && nat_le 
 
 -- a byte of an edit: `0` to `9`, `a` to `z`, a space, or a minus sign
 abbrev pub is_of_edit : ℕ → Bool
-is_of_edit byte = (nat_le 48 byte && nat_le byte 57) || (nat_le 97 byte && nat_le byte 122) || (byte == 32) || (byte == 45)
+is_of_edit byte =
+    (nat_le 48 byte && nat_le byte 57) || (nat_le 97 byte && nat_le byte 122) || (byte == 32) || (byte == 45)
 
 -- how the record of this number begins
 abbrev pub record_start : ℕ → List ℕ

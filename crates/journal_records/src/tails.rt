@@ -4,7 +4,8 @@ ghost use Rattle.std.specs.Prelude.{◌≡◌, ◌⊎◌, ◌++◌, ◌∷◌, �
 ghost use Rattle.std.specs.List.{All};
 ghost use mathlib.Core.List.{IsPrefix};
 ghost use Rattle.journal_records.specs.Tails.{IsInLine, IsTwoLines, IsTail, IsBegun, IsLost, IsUnderTwoLines};
-ghost use Rattle.journal_records.specs.Tails.{IsFirstLineBegun, IsSecondLineBegun, record_start, is_digit, is_of_edit, EndsInDigest};
+ghost use Rattle.journal_records.specs.Tails.{IsFirstLineBegun, IsSecondLineBegun, record_start, EndsInDigest};
+ghost use Rattle.journal_records.specs.Tails.{is_digit, is_of_edit};
 ghost use Rattle.journal_records.specs.Tails.{are_torn_blocks, may_stand, next_place, group_bytes};
 
 use crate::parts::{before_line_feed, behind};
@@ -48,8 +49,8 @@ fn is_in_line(text: &[u8]) -> bool
     text.iter().all(|byte| *byte != b'\n' && *byte != 0)
 }
 
-/// Whether a cut may leave a text behind whole records, the longest of which had so many bytes: where the next would have
-/// this number, and the first byte of the text has this place in a block.
+/// Whether a cut may leave a text behind whole records, the longest of which had so many bytes: where the next would
+/// have this number, and the first byte of the text has this place in a block.
 ///
 /// # Errors
 ///

@@ -7,8 +7,8 @@ use Rattle.journal_records.specs.Journals.{IsReadWhole, record_text, record_seal
 use Rattle.journal_writers.specs.declared.file_id.FileId.{FileId}
 use Rattle.journal_writers.specs.Files.{with_more}
 
--- what a journal shows: which file it is, the digest of its layer, the bytes of its file, where that tells them, how many records it has,
--- the digest of the last, and whether it could not be written once
+-- what a journal shows: which file it is, the digest of its layer, the bytes of its file, where that tells them, how
+-- many records it has, the digest of the last, and whether it could not be written once
 pub record WriterState : Type 0 where
   pub file : FileId
   pub layer : List ℕ

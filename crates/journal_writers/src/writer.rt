@@ -17,8 +17,8 @@ use std::marker::{Model, PhantomData};
 /// A journal that is written: unless a write failed, its file has the header of its layer and the lines of its records,
 /// in order, and nothing else. Once a write failed, none is made any more.
 ///
-/// Contracts see which file it is, the digest of its layer, the bytes of its file, where that tells them, how many records
-/// it has, the digest of the last (of the layer, where there is none), and whether a write failed.
+/// Contracts see which file it is, the digest of its layer, the bytes of its file, where that tells them, how many
+/// records it has, the digest of the last (of the layer, where there is none), and whether a write failed.
 #[derive(Drop)]
 pub struct JournalWriter<K: JournalFile, B: Allocator> {
     file: K,

@@ -111,8 +111,8 @@ fn behind_link<F: Files, A: Allocator + Copy>(
     }
 }
 
-/// A new, empty file for a journal beside the old one, held, of the same owner and mode. It takes the old one's place by
-/// [`take_place`]. What a start that was killed has left there goes.
+/// A new, empty file for a journal beside the old one, held, of the same owner and mode. It takes the old one's place
+/// by [`take_place`]. What a start that was killed has left there goes.
 pub(crate) fn make_next<F: Files<File = File>, A: Allocator + Copy>(
     files: &F,
     alloc: A,

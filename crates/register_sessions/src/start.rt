@@ -260,8 +260,8 @@ fn edited<'a, 'h, H: Allocator>(
 
 /// Has a journal ready to be written: a new file has all that is whole of it, and takes its place; the disk has that
 /// then. So no page is trusted that another session could not write, and that was never read from the disk. What stands
-/// behind the last whole record is set aside in a file of its own, and told; entries of the register that the journal has
-/// not yet are added.
+/// behind the last whole record is set aside in a file of its own, and reported; entries of the register that the
+/// journal has not yet are added.
 fn begin_journal<'a, 'h, R: Files<File = File> + Eprint, P: Machine, H: Allocator>(
     rt: &R,
     machine: &'a P,

@@ -125,8 +125,8 @@ not_empty layer lines rest true is = absurd (omega (arith, ap how_many is))
 
 module _ {A : Type 0} where
   -- an empty text has no records
-  none_of : (layer text : List ℕ) (records : List (Record A)) (seal rest : List ℕ) (lacks : Bool) → IsTextOf layer text records seal rest lacks
-      → text ≡ [] → length records ≡ 0
+  none_of : (layer text : List ℕ) (records : List (Record A)) (seal rest : List ℕ) (lacks : Bool)
+      → IsTextOf layer text records seal rest lacks → text ≡ [] → length records ≡ 0
   none_of layer text records seal rest lacks (inl journal) empty =
       absurd (not_empty layer (records_text layer records) rest lacks (sym (ap (ended lacks) empty) ∙ journal.is_read.is_read.is_text))
   none_of layer text records seal rest lacks (inr h) empty = ap length h.1

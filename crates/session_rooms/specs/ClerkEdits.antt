@@ -36,7 +36,8 @@ pub record IsStoppedIn {A : Type 0} (clerk : ℕ) (edits : List (ℕ × Edit A))
   pub is_refusal : IsRefusal after.now after.journal stopped.1 refusal
 
 -- they are those of a clerk's file with this text
-pub record IsStoppedOf {A : Type 0} (text : List ℕ) (before after : Book A) (number : ℕ) (refusal : Refusal) : Type 0 where
+pub record IsStoppedOf {A : Type 0} (text : List ℕ) (before after : Book A) (number : ℕ)
+    (refusal : Refusal) : Type 0 where
   pub edits : List (ℕ × Edit A)
   pub is_file : IsClerkFile text edits
   pub is_stopped : IsStoppedIn EDITS_CLERK edits before after number refusal

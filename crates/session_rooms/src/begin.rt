@@ -169,8 +169,8 @@ fn load<'h, R: Threads + Sync, H: Allocator + Send + Sync, A: Allocator + Sync>(
     }
 }
 
-/// Who writes the journal of a register from its start on, in an empty file: it gets what is whole of the text which the
-/// register was begun with, or the header where that is empty.
+/// Who writes the journal of a register from its start on, in an empty file: it gets what is whole of the text which
+/// the register was begun with, or the header where that is empty.
 ///
 /// # Errors
 ///

@@ -97,8 +97,8 @@ impl<'r, 'h, H: Allocator, J: Naming<H>, R: Wait, F: JournalFile, K: Clocked> Ro
         }
     }
 
-    /// What is left once all desks have ended: the office, and which records the disk has of its journal, where there is
-    /// one.
+    /// What is left once all desks have ended: the office, and which records the disk has of its journal, where there
+    /// is one.
     pub fn end(self) -> (Office<'h, H, J, &'r R>, Option<DiskHas>)
         ensures office { result.0 ≡ self.entry.office }
         ensures kept { IsSome result.1 ↔ IsSome self.entry.journal }

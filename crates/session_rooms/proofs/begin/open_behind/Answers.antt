@@ -7,7 +7,8 @@ pub returns-then-is_empty-clause-behind : goal.returns-then-is_empty-clause-behi
 returns-then-is_empty-clause-behind g c =
     let seal = c.in-Ok-seal_of_layer.seal in
     let empty = nil_from_length c.args.text.now (eqb-true (length c.args.text.now) 0 (sym c.is_empty.ensures ∙ c.if-is_empty.true)) in
-    behind_nothing seal c.args.text.now c.in-Ok.fabric (record { records = 0; seal = seal; torn = 0; lacks_end = false }) empty c.in-Ok.ensures.journal
+    behind_nothing seal c.args.text.now c.in-Ok.fabric (record { records = 0; seal = seal; torn = 0; lacks_end = false }) empty
+    c.in-Ok.ensures.journal
     c.in-Ok.ensures.now c.in-Ok-seal_of_layer.ensures refl refl refl
 
 pub returns-in-Ok-replay-clause-behind : goal.returns-in-Ok-replay-clause-behind
