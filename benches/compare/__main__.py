@@ -12,6 +12,7 @@ from __future__ import annotations
 
 import argparse
 import resource
+import subprocess
 import sys
 import tempfile
 import time
@@ -63,8 +64,11 @@ def score(peer: Peer, case: planted.Case, path: Path) -> Score:
 def layer_of(case: planted.Case, folder: Path) -> Path:
     """The register as a GeoPackage in its projection, curves as chords, which each program reads."""
     path = folder / "layer.gpkg"
-    frame = case.source if isinstance(case.source, gpd.GeoDataFrame) else gpd.read_file(case.source)
-    frame.to_file(path, layer="parcels", driver="GPKG")
+    if isinstance(case.source, gpd.GeoDataFrame):
+        case.source.to_file(path, layer="parcels", driver="GPKG")
+    else:
+        words = ["ogr2ogr", "-f", "GPKG", "-nlt", "CONVERT_TO_LINEAR", "-nln", "parcels", path, case.source]
+        subprocess.run([str(it) for it in words], check=True)
     return path
 
 
@@ -105,7 +109,7 @@ def main() -> int:
         programs = peers(database)
         names = [peer.name for peer in programs]
         for way in ways:
-            for seed in range(asked.seeds):
+            for seed in range(1, asked.seeds + 1):
                 with tempfile.TemporaryDirectory(prefix="compare-") as folder:
                     case = planted.case(way, seed, Path(folder))
                     path = layer_of(case, Path(folder))
