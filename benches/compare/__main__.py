@@ -121,7 +121,7 @@ def main() -> int:
     mean = {key: it._replace(seconds=it.seconds / asked.seeds) for key, it in scores.items()}
     made = table(ways, mean, names, {peer.name: peer.asks for peer in programs})
     peak = resource.getrusage(resource.RUSAGE_CHILDREN).ru_maxrss // 1024
-    said = f"{asked.seeds} registers of 50 to 500 parcels for each row. The largest process had {peak} MiB."
+    said = f"Each row is of {asked.seeds} drawn registers of 50 to 500 parcels. The largest process had {peak} MiB."
     if not asked.only:
         by_hand = PAGE.read_text().partition(BEGIN)[0]
         PAGE.write_text(f"{by_hand}{BEGIN}\n\n{said}\n\n{made}\n")
