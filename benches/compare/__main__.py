@@ -29,6 +29,8 @@ from compare.peers import Database, Peer, peers  # noqa: E402
 
 PAGE = ROOT / "docs/compare.md"
 BEGIN = "<!-- made by benches/compare -->"
+FIRST_SEED = 90_001
+"""The rules that learn grids were made beside registers of seeds below 2,000, so none of those is measured here."""
 
 
 class Score(NamedTuple):
@@ -109,7 +111,7 @@ def main() -> int:
         programs = peers(database)
         names = [peer.name for peer in programs]
         for way in ways:
-            for seed in range(1, asked.seeds + 1):
+            for seed in range(FIRST_SEED, FIRST_SEED + asked.seeds):
                 with tempfile.TemporaryDirectory(prefix="compare-") as folder:
                     case = planted.case(way, seed, Path(folder))
                     path = layer_of(case, Path(folder))
