@@ -33,8 +33,8 @@ EDGES = (1e-4, 1e-3, 0.01, 0.1, 0.2, 0.5, 1.0, 2.0, 5.0, 10.0, 15.0, 20.0, 30.0,
 PROPOSED = 4
 REACHING = 0.04
 """The least share of a noise's pairs in the upper half of its distances. Chosen beside one register, in which corners
-of faults, 0.02 of all pairs, had passed for the edge. In 125 others, tried afterwards, it changed nothing: what was taken
-had 0.05 to 0.49."""
+of faults, 0.02 of all pairs, had passed for the edge. In 125 others, tried afterwards, it changed nothing: what was
+taken had 0.05 to 0.49."""
 
 
 @dataclass
