@@ -123,7 +123,8 @@ def main() -> int:
     mean = {key: it._replace(seconds=it.seconds / asked.seeds) for key, it in scores.items()}
     made = table(ways, mean, names, {peer.name: peer.asks for peer in programs})
     peak = resource.getrusage(resource.RUSAGE_CHILDREN).ru_maxrss // 1024
-    said = f"Each row is of {asked.seeds} drawn registers of 50 to 500 parcels. The largest process had {peak} MiB."
+    some = "one drawn register" if asked.seeds == 1 else f"{asked.seeds} drawn registers"
+    said = f"Each row is of {some} of 50 to 500 parcels. The largest process had {peak} MiB."
     if not asked.only:
         by_hand = PAGE.read_text().partition(BEGIN)[0]
         PAGE.write_text(f"{by_hand}{BEGIN}\n\n{said}\n\n{made}\n")
