@@ -40,7 +40,7 @@ square_of : (z : ℤ) → z *ℤ z ≡ size z *ℤ size z
 square_of (pos n) = refl
 square_of (negsuc n) = refl
 
-square_is : (u : ℤ) (n : ℕ) → size u ≡ pos n → u *ℤ u ≡ pos (n * n)
+pub square_is : (u : ℤ) (n : ℕ) → size u ≡ pos n → u *ℤ u ≡ pos (n * n)
 square_is u n e = square_of u ∙ ap (λ z. z *ℤ z) e
 
 -- ---- lines that cross between two levels, and lines that do not
@@ -112,16 +112,16 @@ sides_by_parting height w z s parting sides e f g h =
     naturals : (x y z : ℕ) → pos x ≡ pos (y * z) → x ≡ z * y
     naturals x y z e = omega (arith, ints, e)
 
-abbrev gaps : Bool → (height c u v : ℤ) → Fraction
+abbrev pub gaps : Bool → (height c u v : ℤ) → Fraction
 gaps b height c u v =
     if b
     then record { n = height *ℤ (size u +ℤ size v); d = pos 2 *ℤ c }
     else record { n = height *ℤ (u *ℤ u +ℤ v *ℤ v); d = pos 2 *ℤ c *ℤ (size u +ℤ size v) }
 
-test_yes : (z : ℤ) → pos 0 ≤ℤ z → true ≡ le_z (pos 0) z
+pub test_yes : (z : ℤ) → pos 0 ≤ℤ z → true ≡ le_z (pos 0) z
 test_yes z h = omega (arith, ints)
 
-test_no : (z : ℤ) → z <ℤ pos 0 → false ≡ le_z (pos 0) z
+pub test_no : (z : ℤ) → z <ℤ pos 0 → false ≡ le_z (pos 0) z
 test_no z h = omega (arith, ints)
 
 -- a trapezoid
@@ -155,13 +155,13 @@ triangles_counted a b c d H C q lost u v e f crossed p h =
     (pos H *ℤ (u *ℤ u +ℤ v *ℤ v)) (pos 2 *ℤ pos C *ℤ (size u +ℤ size v)) n m p h)
 
 -- ---- two edges
-abbrev between_levels : Bool → Edge → Edge → Fraction
+abbrev pub between_levels : Bool → Edge → Edge → Fraction
 between_levels b e f =
     if b
     then area_of_gaps (highest e f -ℤ lowest e f) (rise e *ℤ rise f) (gap e f (lowest e f)) (gap e f (highest e f))
     else whole (pos 0)
 
-lt_yes : (y z : ℤ) → y <ℤ z → true ≡ lt_z y z
+pub lt_yes : (y z : ℤ) → y <ℤ z → true ≡ lt_z y z
 lt_yes y z h = omega (arith, ints)
 
 lt_no : (y z : ℤ) → z ≤ℤ y → false ≡ lt_z y z

@@ -2,3 +2,4 @@ pub mod Quotients
 pub mod EdgeLines
 pub mod Counts
 pub mod Gaps
+pub mod Losses

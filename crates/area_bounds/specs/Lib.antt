@@ -1,3 +1,4 @@
 pub mod Parts
 pub mod Edges
 pub mod Crossed
+pub mod Rounded

@@ -6,6 +6,7 @@ ghost use Rattle.geo_exact.specs.Rings.{Edge};
 ghost use Rattle.common_areas.specs.Between.{area_between, between, highest, lowest};
 ghost use Rattle.area_bounds.specs.Edges.{edge_of};
 ghost use Rattle.area_bounds.specs.Parts.{IsCounted};
+ghost use Rattle.area_bounds.specs.Rounded.{loss_of};
 
 use crate::lines::{above, are_crossed, at_level, parting, rises};
 use crate::parts::{Counted, PARTS, Parts, trapezoid, triangles};
@@ -42,6 +43,7 @@ fn parts_between(one: Rising, other: Rising, low: i64, high: i64) -> Counted
     ensures counted { IsCounted (pos result.parts) result.lost (area_between (edge_of one) (edge_of other)) }
     ensures bound { result.parts ≤ PARTS * (2 * limit * (2 * limit)) }
     ensures lost { result.lost ≤ 1 }
+    ensures rounded { result.lost ≤ loss_of (area_between (edge_of one) (edge_of other)) }
 {
     let height = above(low, high);
     let both = rises(one, other);
@@ -62,6 +64,7 @@ fn area_parts(one: Rising, other: Rising) -> Counted
     ensures counted { IsCounted (pos result.parts) result.lost (area_between (edge_of one) (edge_of other)) }
     ensures bound { result.parts ≤ PARTS * (2 * limit * (2 * limit)) }
     ensures lost { result.lost ≤ 1 }
+    ensures rounded { result.lost ≤ loss_of (area_between (edge_of one) (edge_of other)) }
 {
     let low = bottom(one, other);
     let high = top(one, other);
@@ -84,6 +87,7 @@ fn signed_parts(one: Rising, other: Rising) -> Parts
     ensures counted { IsCounted result.low result.lost (between (edge_of one) (edge_of other)) }
     ensures bound { IsWithin (3 * 2 ^ 100) result.low }
     ensures lost { result.lost ≤ 1 }
+    ensures rounded { result.lost ≤ loss_of (between (edge_of one) (edge_of other)) }
 {
     let area = area_parts(one, other);
     let parts = area.parts as i128;
@@ -120,6 +124,7 @@ pub fn edge_parts(one: Rising, from: Corner, to: Corner) -> Parts
     ensures counted { IsCounted result.low result.lost (between (edge_of one) (record { from = from; to = to })) }
     ensures bound { IsWithin (3 * 2 ^ 100) result.low }
     ensures lost { result.lost ≤ 1 }
+    ensures rounded { result.lost ≤ loss_of (between (edge_of one) (record { from = from; to = to })) }
 {
     if are_apart(one, from, to) {
         return Parts { low: 0, lost: 0 };

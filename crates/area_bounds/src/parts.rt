@@ -3,6 +3,7 @@
 ghost use Rattle.std.specs.Prelude.{◌≡◌, ◌+◌, ◌*◌, ◌^◌, ◌<◌, ◌≤◌, ◌+ℤ◌};
 ghost use Rattle.geo_exact.specs.Limit.{IsWithin, limit};
 ghost use Rattle.area_bounds.specs.Parts.{IsShare};
+ghost use Rattle.area_bounds.specs.Rounded.{rest_of};
 
 use wide_numbers::{divided_with_rest, product};
 
@@ -46,6 +47,7 @@ impl Parts {
 /// Whether something was left: 0 or 1.
 fn lost_in(once: u128, twice: u128) -> u64
     ensures none { result ≡ 0 → (once ≡ 0) × (twice ≡ 0) }
+    ensures some { once ≡ 0 → twice ≡ 0 → result ≡ 0 }
     ensures one { result ≤ 1 }
 {
     if once == 0 && twice == 0 { 0 } else { 1 }
@@ -60,6 +62,7 @@ pub fn trapezoid(height: u64, rises: u128, sides: u128) -> Counted
     ensures counted { IsShare result.parts result.lost (height * sides) (2 * rises) }
     ensures bound { result.parts ≤ PARTS * (2 * limit * (2 * limit)) }
     ensures lost { result.lost ≤ 1 }
+    ensures rounded { result.lost ≤ rest_of (PARTS * (height * sides)) (2 * rises) }
 {
     let shared = divided_with_rest(product(u128::from(height * PARTS), sides), 2 * rises);
     Counted {
@@ -81,6 +84,8 @@ pub fn triangles(height: u64, rises: u128, parting: u128, first: u128, second: u
         (2 * rises * (first + second)) }
     ensures bound { result.parts ≤ PARTS * (2 * limit * (2 * limit)) }
     ensures lost { result.lost ≤ 1 }
+    ensures rounded { result.lost ≤ rest_of (PARTS * (height * (first * first + second * second)))
+        (2 * rises * (first + second)) }
 {
     let squares = product(first, first)
         .plus(product(second, second))

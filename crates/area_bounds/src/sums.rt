@@ -1,12 +1,14 @@
 //! Sums of areas between edges, along two rings.
 
-ghost use Rattle.std.specs.Prelude.{◌≡◌, ◌+◌, ◌*◌, ◌≤◌, ◌^◌, ◌<ℤ◌, ◌≤ℤ◌, ◌*ℤ◌, ◌+ℤ◌, pos, length};
+ghost use Rattle.std.specs.Prelude.{◌≡◌, ◌+◌, ◌*◌, ◌≤◌, ◌^◌, ◌<ℤ◌, ◌≤ℤ◌, ◌*ℤ◌, ◌+ℤ◌, ◌-ℤ◌, ℤ, pos, length};
 ghost use Rattle.geo_exact.specs.Limit.{IsWithin};
 ghost use Rattle.geo_exact.specs.Rings.{Edge, edges};
 ghost use Rattle.common_areas.specs.Between.{between};
+ghost use Rattle.common_areas.specs.Fractions.{AreEqual, whole};
 ghost use Rattle.common_areas.specs.Common.{common_area2 as common_area2_of, sum_shares};
 ghost use Rattle.area_bounds.specs.Edges.{edge_of};
 ghost use Rattle.area_bounds.specs.Parts.{IsBetween, IsCounted};
+ghost use Rattle.area_bounds.specs.Rounded.{IsNear, count_over, loss_of, pairs_rounded};
 
 use crate::between::edge_parts;
 use crate::parts::{PARTS, Parts};
@@ -28,6 +30,7 @@ fn ring_parts(one: Rising, ring: &[Corner]) -> Parts
     ensures counted { IsCounted result.low result.lost (sum_shares (between (edge_of one)) (edges ring.now)) }
     ensures bound { IsWithin (3 * 2 ^ 100 * length ring.now) result.low }
     ensures lost { result.lost ≤ length ring.now }
+    ensures rounded { result.lost ≤ count_over (λ edge. loss_of (between (edge_of one) edge)) (edges ring.now) }
 {
     let Some((first, rest)) = ring.split_first() else {
         return Parts { low: 0, lost: 0 };
@@ -49,6 +52,8 @@ fn row_parts(from: Corner, to: Corner, ring: &[Corner]) -> Parts
         (sum_shares (between (record { from = from; to = to })) (edges ring.now)) }
     ensures bound { IsWithin (3 * 2 ^ 100 * RING_CORNERS) result.low }
     ensures lost { result.lost ≤ length ring.now }
+    ensures rounded { result.lost
+        ≤ count_over (λ edge. loss_of (between (record { from = from; to = to }) edge)) (edges ring.now) }
 {
     match Rising::of_edge(from, to) {
         None => Parts { low: 0, lost: 0 },
@@ -64,6 +69,8 @@ pub fn common_parts(one: &[Corner], other: &[Corner]) -> Parts
     ensures counted { IsCounted result.low result.lost (common_area2_of one.now other.now) }
     ensures bound { IsWithin (3 * 2 ^ 100 * RING_CORNERS * length one.now) result.low }
     ensures lost { result.lost ≤ length one.now * length other.now }
+    // A pair whose area is a whole number of parts loses none.
+    ensures rounded { result.lost ≤ pairs_rounded one.now other.now }
 {
     let Some((first, rest)) = one.split_first() else {
         return Parts { low: 0, lost: 0 };
@@ -104,6 +111,9 @@ fn bounds_of(parts: Parts) -> AreaBounds
     requires lost { parts.lost ≤ 2 ^ 24 }
     ensures low { (result.low *ℤ pos PARTS) ≤ℤ parts.low }
     ensures high { (parts.low +ℤ pos parts.lost) ≤ℤ (result.high *ℤ pos PARTS) }
+    // They are the nearest ones: one more would be above the parts, and one less below them.
+    ensures greatest { parts.low <ℤ ((result.low +ℤ pos 1) *ℤ pos PARTS) }
+    ensures least { ((result.high -ℤ pos 1) *ℤ pos PARTS) <ℤ (parts.low +ℤ pos parts.lost) }
     ensures close { result.high ≤ℤ (result.low +ℤ pos 2) }
 {
     AreaBounds {
@@ -125,6 +135,11 @@ pub fn common_area2(one: &[Corner], other: &[Corner]) -> AreaBounds
     requires one { length one.now ≤ RING_CORNERS }
     requires other { length other.now ≤ RING_CORNERS }
     ensures between { IsBetween result.low result.high (common_area2_of one.now other.now) }
+    // They are the nearest ones, but for what rounding may lose.
+    ensures near { IsNear result.low result.high (pairs_rounded one.now other.now) (common_area2_of one.now other.now) }
+    // Where the twice-area is a whole number, and no pair of edges is rounded, both are that number.
+    ensures whole { (n : ℤ) → AreEqual (common_area2_of one.now other.now) (whole n)
+        → pairs_rounded one.now other.now ≡ 0 → (result.low ≡ n) × (result.high ≡ n) }
     ensures close { result.high ≤ℤ (result.low +ℤ pos 2) }
 {
     bounds_of(common_parts(one, other))

@@ -11,11 +11,11 @@ use Rattle.entry_cards.specs.Cards.{IsClerk}
 use Rattle.fabric_core.specs.declared.refusal.Refusal.{Refusal}
 use Rattle.fabric_core.specs.declared.refusal.Refusal.TheVariants.{NoMemory}
 use Rattle.fabric_core.specs.Journal.{JournalEntry, replay}
-use Rattle.fabric_core.specs.Refusals.{IsRefusal}
+use Rattle.fabric_core.specs.Refusals.{IsRefusal, NeedsNoMemory}
 use Rattle.desk_lock.specs.Offices.{OfficeId, CardState, ReceiptState, EndsWith, IsRefusedWhenMet, IsSometime, behind}
-use Rattle.desk_lock.specs.Offices.{of_clerk, journal_met, with_met}
+use Rattle.desk_lock.specs.Offices.{of_clerk, journal_met, with_met, IsDueWhenMet}
 use Rattle.clerk_runs.specs.ClerkLines.{ok_line, refused_line}
-use Rattle.clerk_runs.specs.ClerkRuns.{Run, IsRefusalDue, AreTold}
+use Rattle.clerk_runs.specs.ClerkRuns.{Run, IsRefusedFor, AreTold}
 use Rattle.clerk_runs.specs.own.Working.{run_at, Tells, IsAccepted, IsRefused, HasSaid}
 
 module _ {A : Type 0} where
@@ -25,11 +25,13 @@ module _ {A : Type 0} where
       → behind office.origin journal ≡ journal
   behind_none office journal none = ap (λ (l : List (JournalEntry A)). drop (length l) journal) none
 
-  -- what a card is refused is due after the journal that it has met then
+  -- what a card is refused is due after the journal that it has met then, or memory ran out where nothing is due that
+  -- needs none
   pub refused_is_due : (office : OfficeId A) (card after : CardState A) (edit : Edit A) (refusal : Refusal) → office.origin.journal ≡ []
       → after ≡ with_met card after.met → IsRefusedWhenMet office after edit refusal ⊎ (refusal ≡ NoMemory)
-      → IsRefusalDue (run_at office) after.met card.clerk card.made edit refusal ⊎ (refusal ≡ NoMemory)
-  refused_is_due office card after edit refusal none same (inl is) =
+      → ((due : Refusal) → IsDueWhenMet office after edit due → NeedsNoMemory due → refusal ≡ due)
+      → IsRefusedFor (run_at office) after.met card.clerk card.made edit refusal
+  refused_is_due office card after edit refusal none same (inl is) exact =
       let journal : List (JournalEntry A) = after.met in
       let all : journal_met office after ≡ journal = ap (λ l. l ++ journal) none in
       let sometime : IsSometime office after journal = subst (IsSometime office after) all is.sometime in
@@ -44,7 +46,13 @@ module _ {A : Type 0} where
         has_made = subst (λ (c : CardState A). of_clerk c.clerk journal ≡ c.made) same his;
         is_refusal = subst (λ l. IsRefusal (replay office.origin.opening l) l edit refusal) all is.is_refusal;
       })
-  refused_is_due office card after edit refusal none same (inr is) = inr is
+  refused_is_due office card after edit refusal none same (inr is) exact =
+      let all : journal_met office after ≡ after.met = ap (λ l. l ++ after.met) none in
+      inr (
+        is,
+        λ due is_due alone. subst NeedsNoMemory
+            (sym (exact due (subst (λ l. IsRefusal (replay office.origin.opening l) l edit due) (sym all) is_due) alone) ∙ is) alone,
+      )
 
   -- an accepted edit's entry ends what the card has met then
   pub ends_met : (office : OfficeId A) (after : CardState A) (entry : JournalEntry A) → office.origin.journal ≡ []

@@ -14,7 +14,7 @@ use Rattle.fabric_core.specs.Rows.{Tiles}
 use Rattle.fabric_core.specs.Tiling.{IsTiling}
 use Rattle.fabric_core.specs.Journal.{State, JournalEntry, Book, opening_state, replay}
 use Rattle.fabric_core.specs.EditResults.{IsLawful}
-use Rattle.fabric_core.specs.Refusals.{IsRefusal}
+use Rattle.fabric_core.specs.Refusals.{IsRefusal, NeedsNoMemory}
 use Rattle.fabric_core.specs.Locate.{IsLocatedAt}
 use Rattle.desk_lock.specs.Offices.{of_clerk, AreOfClerks, EndsWith}
 use Rattle.clerk_runs.specs.ClerkFiles.{AreClerkFiles}
@@ -51,11 +51,18 @@ module _ {A : Type 0} where
     pub has_made : of_clerk clerk journal ≡ made
     pub is_refusal : IsRefusal (replay run.opening journal) journal edit refusal
 
+  -- the refusal is due after such a list; or memory ran out, and nothing is due after it that is told whatever memory
+  -- there is
+  abbrev pub IsRefusedFor : Run → List (JournalEntry A) → ℕ → List (JournalEntry A) → Edit A → Refusal → Type 0
+  IsRefusedFor run journal clerk made edit refusal = IsRefusalDue run journal clerk made edit refusal
+      ⊎ ((refusal ≡ NoMemory)
+      × ((due : Refusal) → IsRefusal (replay run.opening journal) journal edit due → ¬ NeedsNoMemory due))
+
   -- a clerk's edits, each behind its line's number, are reported in order, and judged in that order: each after a
   -- beginning of the run's journal, `whole`, that begins with the one after which the edit before was judged, `met`. It
   -- is `ok` under the number of the next of the clerk's entries, which has the edit and ends that beginning, or
-  -- `refused` for a reason that was due after it, or because memory ran out; the clerk has no other entries, and `made`
-  -- are those from before
+  -- `refused` for a reason that was due after it, or because memory ran out where nothing was due that is told whatever
+  -- memory there is; the clerk has no other entries, and `made` are those from before
   abbrev pub AreTold : Run → List (JournalEntry A) → ℕ → List (JournalEntry A) → List (JournalEntry A)
       → List (ℕ × Edit A)
       → List (JournalEntry A) → List ℕ → Type 0
@@ -66,7 +73,7 @@ module _ {A : Type 0} where
       × (entry.edit ≡ told.1) × EndsWith entry entry.number now
       × (text ≡ ok_line clerk told.0 entry.number ++ more)
       × AreTold run whole clerk (made ++ entry ∷ []) now rest others more)
-      ⊎ ((refusal : Refusal) × (more : List ℕ) × (IsRefusalDue run now clerk made told.1 refusal ⊎ (refusal ≡ NoMemory))
+      ⊎ ((refusal : Refusal) × (more : List ℕ) × IsRefusedFor run now clerk made told.1 refusal
       × (text ≡ refused_line clerk told.0 refusal ++ more) × AreTold run whole clerk made now rest entries more))
 
   -- the lines of each clerk, one clerk's after the other's, report the clerk's edits and the journal's entries of that

@@ -1,7 +1,7 @@
 -- What notices and receipts tell.
 use Rattle.std.proofs.Common.{◌≡◌, ◌≢◌, ◌⊎◌, inl, inr, Some, None, Option, Ok, Err, Result, true, ◌+◌}
 use Rattle.std.proofs.Common.{ℕ, ◌≤◌, max, List, [], ◌∷◌, ◌++◌, take, drop, length, refl, ap, sym, ◌∙◌, subst, arith, length-append}
-use Rattle.std.specs.Prelude.{is_some, IfSome, IfNone, IfOk, IfErr, OnErr}
+use Rattle.std.specs.Prelude.{is_some, IfSome, IfNone, IfOk, IfErr, OnErr, IsErrAnd, IsErrOf}
 use mathlib.Core.List.{IsPrefix}
 use Rattle.std.proofs.lemmas.List.Elements.{All-same}
 use Rattle.entry_cards.specs.Cards.{IsClerk}
@@ -11,13 +11,18 @@ use Rattle.ring_edits.specs.declared.edit.Edit.{Edit}
 use Rattle.fabric_core.specs.declared.refusal.Refusal.{Refusal}
 use Rattle.fabric_core.specs.declared.refusal.Refusal.TheVariants.{NoMemory}
 use Rattle.fabric_core.specs.Journal.{State, JournalEntry, replay}
-use Rattle.fabric_core.specs.Refusals.{IsRefusal}
+use Rattle.fabric_core.specs.Refusals.{IsRefusal, NeedsNoMemory}
 use Rattle.desk_lock.specs.Offices.{Origin, OfficeId, CardState, DeskState, ReceiptState, EndsWith, IsSometime, IsRefusedWhenMet}
-use Rattle.desk_lock.specs.Offices.{IsOfOrigin, AreOfClerks, behind, journal_met, with_made, with_met}
+use Rattle.desk_lock.specs.Offices.{IsOfOrigin, AreOfClerks, behind, journal_met, with_made, with_met, IsDueWhenMet}
 use Rattle.desk_lock.specs.own.Keeping.{told_by}
 use Rattle.desk_lock.proofs.Behind.{behind_it, more_behind, still_begins}
 use Rattle.desk_lock.proofs.Clerks.{is_sometime_after}
 use Rattle.desk_lock.proofs.FirstEntries.{first_lawful, first_has_origin, first_of_clerks}
+
+-- the reason of an answer that is one
+abbrev error_or : {B : Type 0} → Refusal → Result B Refusal → Refusal
+error_or none (Ok answer) = none
+error_or none (Err refusal) = refusal
 
 module _ {A : Type 0} where
   -- ---- a notice that may be there
@@ -108,6 +113,36 @@ module _ {A : Type 0} where
         })
         | inr none ↦ inr none
       ]
+
+  -- what is due after the journal that the card has met then was due after the desk's
+  due_at_desk : (office : OfficeId A) (card after : CardState A) (edit : Edit A) (old new : DeskState A) (due : Refusal)
+      → replay office.origin.opening old.book.journal ≡ old.book.now → journal_met office after ≡ new.book.journal
+      → (new ≡ old) × (after ≡ with_met card after.met) → IsDueWhenMet office after edit due
+      → IsRefusal old.book.now old.book.journal edit due
+  due_at_desk office card after edit old new due replays met same is =
+      let met_it : journal_met office after ≡ old.book.journal = met ∙ ap (λ (desk : DeskState A). desk.book.journal) same.0 in
+      subst (λ (state : State). IsRefusal state old.book.journal edit due) replays
+      (subst (λ l. IsRefusal (replay office.origin.opening l) l edit due) met_it is)
+
+  -- so it is told, or no memory
+  pub refuses_when_met : (office : OfficeId A) {B : Type 0} (card after : CardState A) (edit : Edit A) (answer : Result B Refusal)
+      (old new : DeskState A) → replay office.origin.opening old.book.journal ≡ old.book.now
+      → journal_met office after ≡ new.book.journal → OnErr answer ((new ≡ old) × (after ≡ with_met card after.met))
+      → ((due : Refusal) → IsRefusal old.book.now old.book.journal edit due → IsErrAnd answer (λ e. (e ≡ due) ⊎ (e ≡ NoMemory)))
+      → IfErr answer (λ refusal. (due : Refusal) → IsDueWhenMet office after edit due → (refusal ≡ due) ⊎ (refusal ≡ NoMemory))
+  refuses_when_met office card after edit (Ok receipt) old new replays met same refuses = tt
+  refuses_when_met office card after edit (Err refusal) old new replays met same refuses =
+      λ due is. refuses due (due_at_desk office card after edit old new due replays met same is)
+
+  -- and where it needs no memory it is told whatever memory there is
+  pub exact_when_met : (office : OfficeId A) {B : Type 0} (card after : CardState A) (edit : Edit A) (answer : Result B Refusal)
+      (old new : DeskState A) → replay office.origin.opening old.book.journal ≡ old.book.now
+      → journal_met office after ≡ new.book.journal → OnErr answer ((new ≡ old) × (after ≡ with_met card after.met))
+      → ((due : Refusal) → IsRefusal old.book.now old.book.journal edit due → NeedsNoMemory due → IsErrOf answer due)
+      → IfErr answer (λ refusal. (due : Refusal) → IsDueWhenMet office after edit due → NeedsNoMemory due → refusal ≡ due)
+  exact_when_met office card after edit (Ok receipt) old new replays met same exact = tt
+  exact_when_met office card after edit (Err refusal) old new replays met same exact =
+      λ due is alone. ap (error_or due) (exact due (due_at_desk office card after edit old new due replays met same is) alone)
 
   -- an answer that has an entry: a receipt, or the entry itself
   module _ {B : Type 0} (entry_of : B → JournalEntry A) where

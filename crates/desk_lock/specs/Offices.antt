@@ -120,6 +120,11 @@ module _ {A : Type 0} where
     pub is_refusal : IsRefusal (replay office.origin.opening (journal_met office card))
         (journal_met office card) edit refusal
 
+  -- this reason to refuse the edit is due after exactly the journal that the card has met
+  abbrev pub IsDueWhenMet : OfficeId A → CardState A → Edit A → Refusal → Type 0
+  IsDueWhenMet office card edit refusal =
+      IsRefusal (replay office.origin.opening (journal_met office card)) (journal_met office card) edit refusal
+
   -- a list of so many entries that ends with this one
   pub record EndsWith (entry : JournalEntry A) (number : ℕ) (journal : List (JournalEntry A)) : Type 0 where
     pub before : List (JournalEntry A)

@@ -15,6 +15,7 @@ ghost use Rattle.fabric_core.specs.Refusals.{IsRefusal, NeedsNoMemory};
 ghost use Rattle.desk_lock.specs.Offices.{AreOfClerks, IsOfOrigin, Agrees, HasMet, IsSometime, IsTotal, journal_met};
 ghost use Rattle.desk_lock.specs.Offices.{with_made, with_met, behind};
 ghost use Rattle.desk_lock.specs.own.Keeping.{as_known, IsKnown};
+ghost use Rattle.desk_lock.specs.own.Steps.{IsStep};
 
 use crate::card::Card;
 use crate::copied::Copied;
@@ -227,19 +228,17 @@ impl<'a, H: Allocator, J: Naming<H>, R: Wait + Drop> Desk<'a, H, J, R> {
         let entries = self.fabric.entries();
         let before = self.opened_with as u64;
         let published = before + shown.front().len();
-        if number <= published {
-            return Some(Notice {
-                number: published,
-                shown,
-            });
-        }
-        if number > entries {
-            return None;
-        }
-        let count = number - before;
-        if self.publisher.front().len() > count {
-            return None;
-        }
+        let handed = self.publisher.front().len();
+        let count = match step_to(number, before, published, handed, entries) {
+            Step::Shown => {
+                return Some(Notice {
+                    number: published,
+                    shown,
+                });
+            }
+            Step::Beyond | Step::Ahead => return None,
+            Step::HandOn(count) => count,
+        };
         let all = hand_on(
             self.fabric.journal(),
             self.opened_with,
@@ -290,6 +289,38 @@ impl<'a, H: Allocator, J: Naming<H>, R: Wait + Drop> Desk<'a, H, J, R> {
         gathering.confirm();
         fabric
     }
+}
+
+/// What is done to publish the first so many entries of a journal.
+#[derive(Clone, Copy, Debug, PartialEq, Eq)]
+pub(crate) enum Step {
+    /// As many are published already.
+    Shown,
+    /// The journal has fewer.
+    Beyond,
+    /// More were handed on before, and would be published along with them.
+    Ahead,
+    /// So many of those that were accepted at the desk are handed on, and published.
+    HandOn(u64),
+}
+
+/// What is done to publish the first so many entries of a journal: how many it had when the office was opened, how many
+/// are published, how many of those that were accepted at the desk were handed on, and how many there are.
+fn step_to(number: u64, before: u64, published: u64, handed: u64, entries: u64) -> Step
+    requires { before ≤ published }
+    ensures { IsStep number before published handed entries result }
+{
+    if number <= published {
+        return Step::Shown;
+    }
+    if number > entries {
+        return Step::Beyond;
+    }
+    let count = number - before;
+    if handed > count {
+        return Step::Ahead;
+    }
+    Step::HandOn(count)
 }
 
 /// Compares cards with what the keeper knows.

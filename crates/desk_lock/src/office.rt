@@ -3,11 +3,14 @@ ghost use Rattle.std.specs.Prelude.{◌≡◌, ◌≢◌, ◌⊎◌, ◌≤◌, 
 ghost use Rattle.std.specs.Prelude.{OnErr, IsOk, ◌↔◌};
 ghost use mathlib.Core.List.{IsPrefix};
 ghost use Rattle.fabric_core.specs.EditResults.{IsLawful};
+ghost use Rattle.fabric_core.specs.declared.refusal.Refusal.{Refusal};
 ghost use Rattle.fabric_core.specs.declared.refusal.Refusal.TheVariants.{NoMemory};
+ghost use Rattle.fabric_core.specs.Refusals.{NeedsNoMemory};
 ghost use Rattle.desk_lock.specs.declared.opening.OpenFault.TheVariants.{Places};
 ghost use Rattle.desk_lock.specs.declared.office.CloseFault.TheVariants.{CardsMissing};
 ghost use Rattle.desk_lock.specs.Offices.{origin_of, behind, fresh_cards, window_of, with_made, with_met, journal_met};
-ghost use Rattle.desk_lock.specs.Offices.{IsSometime, AreOfClerks, EndsWith, IsRefusedWhenMet, IsSheetOf, IsTotal};
+ghost use Rattle.desk_lock.specs.Offices.{IsSometime, AreOfClerks, EndsWith, IsRefusedWhenMet, IsDueWhenMet};
+ghost use Rattle.desk_lock.specs.Offices.{IsSheetOf, IsTotal};
 ghost use Rattle.desk_lock.specs.Places.{IsWrong, IsOpenFault};
 ghost use Rattle.desk_lock.specs.declared.opening.TheConstants.{MOST_PLACES};
 
@@ -117,6 +120,11 @@ impl<'a, H: Allocator, J: Naming<H>, R: Wait + Drop> Office<'a, H, J, R> {
         ensures unchanged { OnErr result (card.new ≡ with_met card.old card.new.met) }
         ensures refusal { IfErr result (λ refusal. IsRefusedWhenMet J.office card.new edit.now refusal
             ⊎ (refusal ≡ NoMemory)) }
+        // What is due is told, unless memory runs out; E9, E1 to E5, E7 and E11 are told whatever memory there is.
+        ensures refuses { IfErr result (λ refusal. (due : Refusal) → IsDueWhenMet J.office card.new edit.now due
+            → (refusal ≡ due) ⊎ (refusal ≡ NoMemory)) }
+        ensures exact { IfErr result (λ refusal. (due : Refusal) → IsDueWhenMet J.office card.new edit.now due
+            → NeedsNoMemory due → refusal ≡ due) }
     {
         let mut desk = self.desk.lock(rt);
         desk.submit(card, edit)
@@ -151,6 +159,11 @@ impl<'a, H: Allocator, J: Naming<H>, R: Wait + Drop> Office<'a, H, J, R> {
         ensures unchanged { OnErr result (card.new ≡ with_met card.old card.new.met) }
         ensures refusal { IfErr result (λ refusal. IsRefusedWhenMet J.office card.new edit.now refusal
             ⊎ (refusal ≡ NoMemory)) }
+        // What is due is told, unless memory runs out; E9, E1 to E5, E7 and E11 are told whatever memory there is.
+        ensures refuses { IfErr result (λ refusal. (due : Refusal) → IsDueWhenMet J.office card.new edit.now due
+            → (refusal ≡ due) ⊎ (refusal ≡ NoMemory)) }
+        ensures exact { IfErr result (λ refusal. (due : Refusal) → IsDueWhenMet J.office card.new edit.now due
+            → NeedsNoMemory due → refusal ≡ due) }
     {
         let mut desk = self.desk.lock(rt);
         let entered = desk.edit(card, edit);

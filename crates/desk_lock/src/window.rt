@@ -1,5 +1,6 @@
 //! Windows, at which it is asked where a point lies, and which ring a parcel has.
-ghost use Rattle.std.specs.Prelude.{◌≡◌, ◌≢◌, ◌<◌, ◌≤◌, ◌++◌, length, IfOk, IfErr, IfSome, MatchBool, MatchOption};
+ghost use Rattle.std.specs.Prelude.{◌≡◌, ◌≢◌, ◌<◌, ◌≤◌, ◌++◌, length, IfOk, IfErr, IfSome, IfNone, MatchBool};
+ghost use Rattle.std.specs.Prelude.{MatchOption};
 ghost use Rattle.std.specs.List.{Contains};
 ghost use mathlib.Core.List.{IsPrefix};
 ghost use Rattle.geo_exact.specs.Point.{corner_point};
@@ -214,6 +215,19 @@ fn enter<'r, 'a, H: Allocator, J: Naming<H>>(
     ensures entered { MatchOption result (front.new ≡ front.old) (λ version. version.reading.part.value ≡ front.new) }
 {
     let version = reader.enter()?;
+    as_new(version, front)
+}
+
+/// A version, where it is as new as what was told, which learns it then; it is given up exactly where it is older.
+fn as_new<'r, 'a, H: Allocator, J: Naming<H>>(
+    version: ReadGuard<'r, VersionOf<'a, H, J>, &'a H>,
+    front: &mut Front<Entry<&'a H>, J>,
+) -> Option<ReadGuard<'r, VersionOf<'a, H, J>, &'a H>>
+    ensures begins { IsPrefix front.old front.new }
+    ensures entered { MatchOption result (front.new ≡ front.old) (λ version. version.reading.part.value ≡ front.new) }
+    ensures older { IfNone result (length version.entry.reading.part.value < length front.old) }
+    ensures not_older { IfSome result (λ version. length front.old ≤ length version.reading.part.value) }
+{
     if is_older(version.front(), front) {
         return None;
     }

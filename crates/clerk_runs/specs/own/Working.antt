@@ -1,14 +1,13 @@
 -- What a clerk's job leaves at an office whose fabric was handed in with no entry, and what the jobs of all clerks
 -- leave together. Public contracts do not speak of it.
-use Rattle.std.specs.Prelude.{◌≡◌, ◌⊎◌, Bool, true, false, ℕ, List, [], ◌∷◌, ◌++◌, map, All}
+use Rattle.std.specs.Prelude.{◌≡◌, Bool, true, false, ℕ, List, [], ◌∷◌, ◌++◌, map, All}
 use mathlib.Core.List.{IsPrefix}
 use Rattle.ring_edits.specs.declared.edit.Edit.{Edit}
 use Rattle.fabric_core.specs.declared.refusal.Refusal.{Refusal}
-use Rattle.fabric_core.specs.declared.refusal.Refusal.TheVariants.{NoMemory}
 use Rattle.fabric_core.specs.Journal.{JournalEntry, replay}
 use Rattle.desk_lock.specs.Offices.{OfficeId, CardState, ReceiptState, EndsWith}
 use Rattle.clerk_runs.specs.ClerkLines.{ok_line, refused_line}
-use Rattle.clerk_runs.specs.ClerkRuns.{Run, Register, IsRefusalDue, IsJournal, AreTold, AreEachTold}
+use Rattle.clerk_runs.specs.ClerkRuns.{Run, Register, IsRefusedFor, IsJournal, AreTold, AreEachTold}
 
 module _ {A : Type 0} where
   -- the run of an office's clerks
@@ -35,7 +34,7 @@ module _ {A : Type 0} where
   pub record IsRefused (run : Run) (card : CardState A) (told : ℕ × Edit A) (after : CardState A)
       (lines lines_after : List ℕ) (receipts receipts_after : List (ReceiptState A)) : Type 0 where
     pub refusal : Refusal
-    pub is_due : IsRefusalDue run after.met card.clerk card.made told.1 refusal ⊎ (refusal ≡ NoMemory)
+    pub is_due : IsRefusedFor run after.met card.clerk card.made told.1 refusal
     pub made : after.made ≡ card.made
     pub met : IsPrefix card.met after.met
     pub line : lines_after ≡ lines ++ refused_line card.clerk told.0 refusal

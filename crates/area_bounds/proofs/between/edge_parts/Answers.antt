@@ -1,8 +1,9 @@
-use Rattle.std.proofs.Common.{subst}
+use Rattle.std.proofs.Common.{◌≤◌, subst}
 use Rattle.geo_exact.specs.Rings.{Edge}
 use Rattle.common_areas.specs.Between.{between}
 use Rattle.area_bounds.specs.Edges.{edge_of}
 use Rattle.area_bounds.specs.Parts.{IsCounted}
+use Rattle.area_bounds.specs.Rounded.{loss_of}
 use Rattle.area_bounds.proofs.Gaps.{level_counted, nothing_between}
 use Rattle.area_bounds.proofs.between.edge_parts.Goals as goal
 
@@ -18,3 +19,8 @@ pub returns-in-Some-clause-counted : goal.returns-in-Some-clause-counted
 returns-in-Some-clause-counted c =
     let P : Edge → Type 0 = λ e. IsCounted c.signed_parts.result.low c.signed_parts.result.lost (between (edge_of c.args.one) e) in
     subst P c.in-Some.ensures c.signed_parts.ensures.counted
+
+pub returns-in-Some-clause-rounded : goal.returns-in-Some-clause-rounded
+returns-in-Some-clause-rounded c =
+    let P : Edge → Type 0 = λ e. c.signed_parts.result.lost ≤ loss_of (between (edge_of c.args.one) e) in
+    subst P c.in-Some.ensures c.signed_parts.ensures.rounded

@@ -1,4 +1,4 @@
-use Rattle.std.proofs.Common.{◌≡◌, ◌+◌, ◌*◌, ◌∙◌, sym, arith, FitsSigned, w64}
+use Rattle.std.proofs.Common.{◌≡◌, ◌+◌, ◌*◌, ◌≤◌, ◌∙◌, sym, arith, FitsSigned, w64}
 use Rattle.std.specs.Int.{abs_diff}
 use Rattle.std.proofs.lemmas.Bool.{false≢true}
 use Rattle.std.proofs.lemmas.Int.{ints, to_z-of_z}
@@ -6,9 +6,11 @@ use lib.IntN.{◌-ℤ◌}
 use Rattle.geo_exact.specs.Limit.{limit}
 use Rattle.common_areas.specs.Between.{gap}
 use Rattle.area_bounds.specs.Edges.{edge_of}
+use Rattle.area_bounds.specs.Rounded.{loss_of}
 use Rattle.area_bounds.proofs.EdgeLines.{place_bound, widened_edges}
 use Rattle.area_bounds.proofs.Gaps.{trapezoid_counted, triangles_counted, area_counted, crossed_sides, sides_by_parting}
 use Rattle.area_bounds.proofs.Gaps.{sides_some, sides_bound, factor_some, divisor_some}
+use Rattle.area_bounds.proofs.Losses.{trapezoid_losses, triangles_losses, of_area}
 use Rattle.area_bounds.proofs.between.parts_between.Goals as goal
 
 pub triangles-requires : goal.triangles-requires
@@ -113,6 +115,14 @@ returns-then-are_crossed c =
           (rw (f, g) at c.triangles.ensures.counted));
       bound = c.triangles.ensures.bound;
       lost = c.triangles.ensures.lost;
+      rounded = of_area (λ area. c.triangles.result.lost ≤ loss_of area) (edge_of c.args.one) (edge_of c.args.other)
+          c.above-height.result c.rises-both.result c.args.low c.args.high c.requires.low_is c.requires.high_is c.requires.order
+          rise_is c.rises-both.ensures.value
+          (triangles_losses c.at_level-first.result.one c.at_level-first.result.other c.at_level-second.result.one
+          c.at_level-second.result.other c.above-height.result c.rises-both.result c.triangles.result.lost
+          (gap (edge_of c.args.one) (edge_of c.args.other) c.args.low) (gap (edge_of c.args.one) (edge_of c.args.other) c.args.high)
+          (simp to_z-of_z at c.at_level-first.ensures.value) (simp to_z-of_z at c.at_level-second.ensures.value) crossed
+          (rw (f, g) at c.triangles.ensures.rounded));
     }
 
 pub returns-else-are_crossed : goal.returns-else-are_crossed
@@ -137,4 +147,13 @@ returns-else-are_crossed c =
           (rw (f, g) at c.trapezoid.ensures.counted));
       bound = c.trapezoid.ensures.bound;
       lost = c.trapezoid.ensures.lost;
+      rounded = of_area (λ area. c.trapezoid.result.lost ≤ loss_of area) (edge_of c.args.one) (edge_of c.args.other)
+          c.above-height.result c.rises-both.result c.args.low c.args.high c.requires.low_is c.requires.high_is c.requires.order
+          rise_is c.rises-both.ensures.value
+          (trapezoid_losses c.at_level-first.result.one c.at_level-first.result.other c.at_level-second.result.one
+          c.at_level-second.result.other c.above-height.result c.rises-both.result c.trapezoid.result.lost
+          (gap (edge_of c.args.one) (edge_of c.args.other) c.args.low) (gap (edge_of c.args.one) (edge_of c.args.other) c.args.high)
+          (simp to_z-of_z at c.at_level-first.ensures.value) (simp to_z-of_z at c.at_level-second.ensures.value)
+          (λ h. false≢true (sym c.if-are_crossed.false ∙ c.are_crossed.ensures.1 h))
+          (rw (f, g) at c.trapezoid.ensures.rounded));
     }

@@ -6,6 +6,7 @@ use Rattle.common_areas.specs.Between.{between}
 use Rattle.area_bounds.specs.Edges.{edge_of}
 use Rattle.area_bounds.proofs.Counts.{counted_same}
 use Rattle.area_bounds.proofs.Gaps.{alike_counted, unlike_counted}
+use Rattle.area_bounds.proofs.Losses.{signed_loss}
 use Rattle.area_bounds.proofs.between.signed_parts.Goals as goal
 
 pub returns-then-go_alike-clause-counted : goal.returns-then-go_alike-clause-counted
@@ -27,3 +28,15 @@ returns-else-go_alike-clause-counted c =
     (pos c.area_parts-area.result.parts) c.area_parts-area.result.lost c.args.one.rises c.args.other.rises
     (λ e. false≢true (sym c.if-go_alike.false ∙ c.go_alike.ensures.1 e)) c.area_parts-area.ensures.counted)
     (omega (arith, ints, c.area_parts-area.ensures.bound)) (omega arith)
+
+pub returns-then-go_alike-clause-rounded : goal.returns-then-go_alike-clause-rounded
+unfolding edge_of
+returns-then-go_alike-clause-rounded c =
+    signed_loss c.args.one.is_up c.args.other.is_up c.args.one.low c.args.one.high c.args.other.low c.args.other.high
+    c.area_parts-area.result.lost c.args.one.rises c.args.other.rises c.area_parts-area.ensures.rounded
+
+pub returns-else-go_alike-clause-rounded : goal.returns-else-go_alike-clause-rounded
+unfolding edge_of
+returns-else-go_alike-clause-rounded c =
+    signed_loss c.args.one.is_up c.args.other.is_up c.args.one.low c.args.one.high c.args.other.low c.args.other.high
+    c.area_parts-area.result.lost c.args.one.rises c.args.other.rises c.area_parts-area.ensures.rounded

@@ -1,7 +1,8 @@
-use Rattle.std.proofs.Common.{◌≡◌, ◌+◌, ◌*◌, ◌∙◌, sym, ap, arith, ℕ}
+use Rattle.std.proofs.Common.{◌≡◌, ◌+◌, ◌*◌, ◌∙◌, refl, sym, ap, arith, ℕ}
 use Rattle.geo_exact.specs.Limit.{limit}
 use Rattle.area_bounds.specs.declared.parts.TheConstants.{PARTS}
 use Rattle.area_bounds.proofs.Quotients.{trapezoid_above, trapezoid_below, trapezoid_bound}
+use Rattle.area_bounds.proofs.Losses.{trapezoid_loss}
 use Rattle.area_bounds.proofs.parts.trapezoid.Goals as goal
 
 pub returns : goal.returns
@@ -18,4 +19,6 @@ returns c =
       bound = trapezoid_bound PARTS limit c.args.height c.args.sides c.args.rises c.narrow.result c.divided_with_rest-shared.result.rest
           e c.requires.some c.requires.sides c.requires.height;
       lost = c.lost_in.ensures.one;
+      rounded = trapezoid_loss PARTS c.args.height c.args.sides c.args.rises c.narrow.result c.divided_with_rest-shared.result.rest
+          c.lost_in.result e c.divided_with_rest-shared.ensures.left (λ z. c.lost_in.ensures.some z refl) c.lost_in.ensures.one;
     }

@@ -3,6 +3,7 @@ use Rattle.geo_exact.specs.Limit.{limit}
 use Rattle.wide_numbers.specs.Value.{value}
 use Rattle.area_bounds.specs.declared.parts.TheConstants.{PARTS}
 use Rattle.area_bounds.proofs.Quotients.{triangles_above, triangles_below, triangles_bound}
+use Rattle.area_bounds.proofs.Losses.{triangles_loss}
 use Rattle.area_bounds.proofs.parts.triangles.Goals as goal
 
 pub narrow-requires : goal.narrow-requires
@@ -42,4 +43,8 @@ returns c =
           (value c.divided_with_rest-once.result.whole) c.divided_with_rest-once.result.rest c.divided_with_rest-twice.result.rest
           e d c.requires.sides_part c.requires.sides c.requires.height c.requires.some c.requires.apart;
       lost = c.lost_in.ensures.one;
+      rounded = triangles_loss PARTS c.args.height c.args.first c.args.second c.args.rises c.args.parting c.narrow.result
+          (value c.divided_with_rest-once.result.whole) c.divided_with_rest-once.result.rest c.divided_with_rest-twice.result.rest
+          c.lost_in.result e d c.requires.sides_part c.divided_with_rest-once.ensures.left c.divided_with_rest-twice.ensures.left
+          c.lost_in.ensures.some c.lost_in.ensures.one;
     }

@@ -5,7 +5,9 @@ use Rattle.geo_exact.specs.Rings.{edges}
 use Rattle.common_areas.specs.Between.{between}
 use Rattle.common_areas.specs.Common.{sum_shares}
 use Rattle.area_bounds.specs.Edges.{edge_of}
+use Rattle.area_bounds.specs.Rounded.{loss_of}
 use Rattle.area_bounds.proofs.Counts.{leads_start, leads_on, leads_home}
+use Rattle.area_bounds.proofs.Losses.{losses-start, losses-drop, losses-end}
 use Rattle.area_bounds.proofs.sums.ring_parts.Goals as goal
 
 pub loop-to-init : goal.loop-to-init
@@ -13,6 +15,11 @@ loop-to-init c = record {
   so_far = leads_start (between (edge_of c.args.one)) c.in-Some.first.now c.args.ring.now c.in-Some.rest.now c.in-Some.ensures.cases.0;
   bound = record { low = omega (arith, ints); high = omega (arith, ints) };
   lost = omega arith;
+  rounded = omega (
+    arith,
+    losses-start (λ edge. loss_of (between (edge_of c.args.one) edge)) c.in-Some.first.now c.args.ring.now c.in-Some.rest.now
+        c.in-Some.ensures.cases.0,
+  );
 }
 
 pub plus-sum-requires-clause-low : goal.plus-sum-requires-clause-low
@@ -35,6 +42,14 @@ loop-to-preserved c =
         high = omega (arith, ints, e, c.loop-to.invariant.bound.high, c.edge_parts.ensures.bound.high);
       };
       lost = omega (arith, f, c.loop-to.invariant.lost, c.edge_parts.ensures.lost);
+      rounded = omega (
+        arith,
+        f,
+        c.loop-to.invariant.rounded,
+        c.edge_parts.ensures.rounded,
+        losses-drop (λ edge. loss_of (between (edge_of c.args.one) edge)) c.loop-to.from c.to-item.result c.in-Some.first.now
+            c.in-Some.rest.now c.loop-to.to-index c.loop-to-test.true c.to-item.is,
+      );
     }
 
 pub plus-requires-clause-low : goal.plus-requires-clause-low
@@ -64,3 +79,14 @@ returns-clause-bound c = record {
     c.edge_parts-2.ensures.bound.high,
   );
 }
+
+pub returns-clause-rounded : goal.returns-clause-rounded
+returns-clause-rounded c =
+    omega (
+      arith,
+      c.plus.ensures.lost,
+      c.loop-to.invariant.rounded,
+      c.edge_parts-2.ensures.rounded,
+      losses-end (λ edge. loss_of (between (edge_of c.args.one) edge)) c.loop-to.from c.in-Some.first.now c.in-Some.rest.now
+          c.loop-to.to-index c.loop-to-test.false,
+    )

@@ -13,7 +13,7 @@ returns-in-Err-clause-said g c =
     (λ line. inr (record {
       refusal = refusal;
       is_due = refused_is_due g.J.Naming-1.office card _ told.1 refusal c.args.counter.now.opened
-          c.in-Err.ensures.unchanged c.in-Err.ensures.refusal;
+          c.in-Err.ensures.unchanged c.in-Err.ensures.refusal c.in-Err.ensures.exact;
       made = ap (λ (after : CardState _). after.made) c.in-Err.ensures.unchanged;
       met = c.in-Err.ensures.met;
       line = line ∙ ap (λ clerk. c.args.lines.now.items ++ refused_line clerk told.0 refusal) c.clerk-clerk.ensures;

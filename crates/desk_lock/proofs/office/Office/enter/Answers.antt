@@ -2,7 +2,7 @@ use Rattle.std.proofs.Common.{Bor, ◌≡◌, ◌++◌, subst}
 use Rattle.fabric_core.specs.EditResults.{IsLawful}
 use Rattle.fabric_core.specs.Journal.{JournalEntry}
 use Rattle.desk_lock.specs.Offices.{DeskState, IsOfOrigin, AreOfClerks}
-use Rattle.desk_lock.proofs.Told.{refused_when_met, met_on, met_ends, entered_is_sometime}
+use Rattle.desk_lock.proofs.Told.{refused_when_met, refuses_when_met, exact_when_met, met_on, met_ends, entered_is_sometime}
 use Rattle.desk_lock.proofs.office.Office.enter.Goals as goal
 
 pub returns-clause-met : goal.returns-clause-met
@@ -34,3 +34,15 @@ returns-clause-refusal g c = refused_when_met g.J.Naming-1.office c.args.card.no
     c.edit-entered.result c.deref_mut.result.now c.edit-entered.new.self c.edit-entered.ensures.sometime c.edit-entered.ensures.replays
     c.edit-entered.ensures.met
     c.edit-entered.ensures.unchanged c.edit-entered.ensures.refusal
+
+pub returns-clause-refuses : goal.returns-clause-refuses
+returns-clause-refuses g c = refuses_when_met g.J.Naming-1.office c.args.card.now c.edit-entered.new.card c.args.edit.now
+    c.edit-entered.result c.deref_mut.result.now c.edit-entered.new.self c.edit-entered.ensures.replays c.edit-entered.ensures.met
+    c.edit-entered.ensures.unchanged
+    c.edit-entered.ensures.refuses
+
+pub returns-clause-exact : goal.returns-clause-exact
+returns-clause-exact g c = exact_when_met g.J.Naming-1.office c.args.card.now c.edit-entered.new.card c.args.edit.now
+    c.edit-entered.result c.deref_mut.result.now c.edit-entered.new.self c.edit-entered.ensures.replays c.edit-entered.ensures.met
+    c.edit-entered.ensures.unchanged
+    c.edit-entered.ensures.exact

@@ -1,6 +1,7 @@
 use Rattle.std.proofs.Common.{Bor}
 use Rattle.desk_lock.specs.Offices.{ReceiptState}
 use Rattle.desk_lock.proofs.Told.{receipt_ends, receipt_is_sometime, refused_when_met, met_on, met_ends, met_is_sometime}
+use Rattle.desk_lock.proofs.Told.{refuses_when_met, exact_when_met}
 use Rattle.desk_lock.proofs.office.Office.submit.Goals as goal
 
 pub returns-clause-told : goal.returns-clause-told
@@ -29,3 +30,13 @@ pub returns-clause-refusal : goal.returns-clause-refusal
 returns-clause-refusal g c = refused_when_met g.J.Naming-1.office c.args.card.now c.submit.new.card c.args.edit.now c.submit.result
     c.deref_mut.result.now c.submit.new.self c.submit.ensures.sometime c.submit.ensures.replays c.submit.ensures.met
     c.submit.ensures.unchanged c.submit.ensures.refusal
+
+pub returns-clause-refuses : goal.returns-clause-refuses
+returns-clause-refuses g c = refuses_when_met g.J.Naming-1.office c.args.card.now c.submit.new.card c.args.edit.now c.submit.result
+    c.deref_mut.result.now c.submit.new.self c.submit.ensures.replays c.submit.ensures.met c.submit.ensures.unchanged
+    c.submit.ensures.refuses
+
+pub returns-clause-exact : goal.returns-clause-exact
+returns-clause-exact g c = exact_when_met g.J.Naming-1.office c.args.card.now c.submit.new.card c.args.edit.now c.submit.result
+    c.deref_mut.result.now c.submit.new.self c.submit.ensures.replays c.submit.ensures.met c.submit.ensures.unchanged
+    c.submit.ensures.exact

@@ -1,6 +1,6 @@
 use Rattle.std.proofs.Common.{◌≡◌, ◌≤◌, ◌<◌, List, sym, subst, ◌∙◌, length, MatchBool}
 use Rattle.desk_lock.proofs.Behind.{becomes}
-use Rattle.desk_lock.proofs.window.enter.Goals as goal
+use Rattle.desk_lock.proofs.window.as_new.Goals as goal
 
 pub returns-clause-entered : goal.returns-clause-entered
 returns-clause-entered g c =

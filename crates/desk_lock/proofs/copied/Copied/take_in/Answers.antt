@@ -5,8 +5,8 @@ use Rattle.entry_cards.specs.Cards.{IsClerk}
 use Rattle.desk_lock.specs.Offices.{IsOfOrigin, AreOfClerks, behind}
 use Rattle.desk_lock.proofs.Behind.{takes_in}
 use Rattle.desk_lock.proofs.Clerks.{of_clerks_more}
-use Rattle.desk_lock.proofs.copied.CopiedFollowsEntryRef.follow.Goals as goal
-use Rattle.desk_lock.proofs.copied.CopiedFollowsEntryRef.follow.Goals.{in-Ok, in-Err}
+use Rattle.desk_lock.proofs.copied.Copied.take_in.Goals as goal
+use Rattle.desk_lock.proofs.copied.Copied.take_in.Goals.{in-Ok, in-Err-NotDue, in-Err-NoMemory}
 
 pub invariant_of-self : goal.invariant_of-self
 invariant_of-self g c =
@@ -26,7 +26,10 @@ invariant_of-self g c =
             of_clerks_more office.clerks (behind office.origin old.journal) (behind office.origin new.journal) c.args.entry.now
                 taken.1 c.self.invariant.2 is_clerk,
           )
-      | in-Err w ↦
+      | in-Err-NotDue w ↦
           subst (λ (book : Book (Bor g.row.H.Denot)). IsOfOrigin office.origin book × (c.self.inside.clerks ≡ office.clerks)
-          × AreOfClerks office.clerks (behind office.origin book.journal)) (sym w.in-Err.ensures.unchanged) c.self.invariant
+          × AreOfClerks office.clerks (behind office.origin book.journal)) (sym w.in-Err-NotDue.ensures.unchanged) c.self.invariant
+      | in-Err-NoMemory w ↦
+          subst (λ (book : Book (Bor g.row.H.Denot)). IsOfOrigin office.origin book × (c.self.inside.clerks ≡ office.clerks)
+          × AreOfClerks office.clerks (behind office.origin book.journal)) (sym w.in-Err-NoMemory.ensures.unchanged) c.self.invariant
     ]
