@@ -1,9 +1,11 @@
 /* Has calls on one file fail, as those of a disk that breaks: what LD_PRELOAD is for in test_session_disk.py.
    JOURNAL is the file's path, FAILS the kind of failure, AT the call from which on it fails, counted from 1.
-   Where FAILS is `folder`, it is calls on the file's folder that fail. */
+   Where it is `dies`, the program is killed at that write. The file that takes its place at a start, JOURNAL.gandovel-next, counts as it. Where FAILS is `folder`, it is calls
+   on the file's folder that fail. */
 #define _GNU_SOURCE
 #include <dlfcn.h>
 #include <errno.h>
+#include <signal.h>
 #include <stdio.h>
 #include <stdlib.h>
 #include <string.h>
@@ -22,6 +24,10 @@ static int fails(int fd, const char *first, const char *second)
     ssize_t length = readlink(name, path, sizeof path - 1);
     if (length < 0)
         return 0;
+    static const char next[] = ".gandovel-next";
+    ssize_t ending = sizeof next - 1;
+    if (length > ending && !memcmp(path + length - ending, next, ending))
+        length -= ending;
     const char *end = strcmp(kind, "folder") ? NULL : strrchr(wanted, '/');
     size_t wanted_length = end ? (size_t)(end - wanted) : strlen(wanted);
     if ((size_t)length != wanted_length || memcmp(path, wanted, wanted_length))
@@ -34,6 +40,8 @@ ssize_t write(int fd, const void *bytes, size_t count)
 {
     ssize_t (*real)(int, const void *, size_t) = dlsym(RTLD_NEXT, "write");
     int found = count > 1 ? fails(fd, "write", "half a write") : 0;
+    if (count > 1 && fails(fd, "dies", "dies") == 1)
+        raise(SIGKILL);
     if (!found && getenv("FAILS") && !strcmp(getenv("FAILS"), "short writes") && count > 1)
         return real(fd, bytes, count / 2);
     if (found == 1 && !strcmp(getenv("FAILS"), "half a write"))
@@ -58,7 +66,7 @@ int fdatasync(int fd)
 int fsync(int fd)
 {
     int (*real)(int) = dlsym(RTLD_NEXT, "fsync");
-    if (fails(fd, "folder", "folder") == 1) {
+    if (fails(fd, "folder", "synchronise") == 1) {
         errno = EIO;
         return -1;
     }

@@ -101,13 +101,16 @@ def test_the_journal_has_a_line_for_each_edit_and_none_else(halves):
 
 
 @pytest.mark.parametrize("length", [1, 2, 3, 20, 60, 91, 92, 93, 101])
-def test_a_torn_last_record_is_cut_off(town, length):
+def test_a_torn_last_record_is_set_aside(town, length):
     whole, more = town.text_of("merge 1 2"), town.text_of("merge 1 2", "merge 65 3")
     town.journal.write_bytes(more[: len(whole) + length])
     with town.session() as session:
         assert session.replayed == 1
-        assert session.notes == [f"note: {town.journal}: a last record of {length} bytes without its end is cut off"]
+        assert session.notes == [
+            f"note: {town.journal}: {length} bytes after the last whole record are set aside as {town.journal}.cut.1"
+        ]
         assert town.journal.read_bytes() == whole
+        assert Path(f"{town.journal}.cut.1").read_bytes() == more[len(whole) : len(whole) + length]
         session.merge(65, 3)
     assert town.lines() == ["merge 1 2", "merge 65 3"]
 
@@ -378,7 +381,7 @@ def test_killed_at_random_moments(town, tmp_path):
 
 
 def without_torn(town: Town, heard: List[Heard]) -> List[str]:
-    """The lines of the journal's edits. A torn record is the beginning of one that got no answer, and is cut off."""
+    """The lines of the journal's edits. A torn record is the beginning of one that got no answer."""
     text = town.journal.read_bytes()
     torn = gv.read_journal(town.journal).torn
     assert not torn or unanswered(heard)

@@ -1,7 +1,7 @@
 -- The journal of a register as a text (this product's own). Digests are SHA-256 (FIPS
 -- 180-4), in lower-case hexadecimal digits.
-use Rattle.std.specs.Prelude.{◌≡◌, ◌⊎◌, ⊤, ℕ, ◌+◌, ◌==◌, if◌then◌else◌, List, [], ◌∷◌, ◌++◌, length, codes, decimal}
-use mathlib.Core.List.{IsPrefix}
+use Rattle.std.specs.Prelude.{◌≡◌, ◌≢◌, ⊤, ℕ, ◌+◌, ◌-◌, ◌%◌, ◌==◌, if◌then◌else◌, List, [], ◌∷◌, ◌++◌}
+use Rattle.std.specs.Prelude.{length, codes, decimal, max, Bool, false, true}
 use Rattle.sha2.specs.Sha256.{sha256}
 use Rattle.hex.specs.Hex.{encode_lower}
 use Rattle.ring_edits.specs.declared.edit.Edit.{Edit}
@@ -9,6 +9,9 @@ use Rattle.geo_exact.specs.declared.corner.Corner.{Corner}
 use Rattle.line_files.specs.EditLine.{edit_line, places_text}
 use Rattle.journal_records.specs.declared.record.Stamp.{Stamp}
 use Rattle.journal_records.specs.declared.record.Record.{Record}
+use Rattle.journal_records.specs.declared.read.JournalFault.{JournalFault}
+use Rattle.journal_records.specs.declared.read.JournalFault.TheVariants.{NoJournal, OtherLayer, Changed, NoMemory}
+use Rattle.journal_records.specs.Tails.{IsTwoLines, IsTail}
 
 -- the digits of a message's digest
 abbrev pub seal_text : List ℕ → List ℕ
@@ -56,13 +59,23 @@ abbrev pub AreNumbered : {A : Type 0} → ℕ → List (Record A) → Type 0
 AreNumbered number [] = ⊤
 AreNumbered number (first ∷ others) = (first.stamp.number ≡ number) × AreNumbered (number + 1) others
 
--- how the record of this number begins
-abbrev pub record_start : ℕ → List ℕ
-record_start number = codes "# " ++ decimal number ++ codes " "
+-- how many bytes the longest of them has; 0 where there is none
+abbrev pub longest : {A : Type 0} → List ℕ → List (Record A) → ℕ
+longest before [] = 0
+longest before (first ∷ others) =
+    max (length (record_text before first.stamp first.edit))
+    (longest (record_seal before first.stamp first.edit) others)
 
--- the bytes may be the beginning of the record of this number; none may be
-abbrev pub IsTorn : ℕ → List ℕ → Type 0
-IsTorn number torn = IsPrefix torn (record_start number) ⊎ IsPrefix (record_start number) torn
+-- each is two lines
+abbrev pub AreTwoLines : {A : Type 0} → List ℕ → List (Record A) → Type 0
+AreTwoLines before [] = ⊤
+AreTwoLines before (first ∷ others) = IsTwoLines (record_text before first.stamp first.edit)
+    × AreTwoLines (record_seal before first.stamp first.edit) others
+
+-- a text with the line feed that it lacks at its end, where it does
+abbrev pub ended : Bool → List ℕ → List ℕ
+ended false text = text
+ended true text = text ++ codes "\n"
 
 -- the text is the header of this layer, the lines of these records, whose last digest this is, and what is behind them
 pub record IsReadSoFar {A : Type 0} (layer text : List ℕ) (records : List (Record A))
@@ -71,10 +84,19 @@ pub record IsReadSoFar {A : Type 0} (layer text : List ℕ) (records : List (Rec
   pub is_seal : seal ≡ last_seal layer records
   pub are_numbered : AreNumbered 1 records
 
--- and behind them is at most a beginning of one record more
-pub record IsJournal {A : Type 0} (layer text : List ℕ) (records : List (Record A)) (seal torn : List ℕ) : Type 0 where
-  pub is_read : IsReadSoFar layer text records seal torn
-  pub is_torn : IsTorn (1 + length records) torn
+-- and each of them is two lines
+pub record IsReadWhole {A : Type 0} (layer text : List ℕ) (records : List (Record A)) (seal behind : List ℕ)
+    : Type 0 where
+  pub is_read : IsReadSoFar layer text records seal behind
+  pub in_lines : AreTwoLines layer records
+
+-- the text is a journal: all its whole records, and behind them at most what a cut may leave, which is no whole one.
+-- Where the last one lacks its line feed alone, it is whole, and nothing stands behind it
+pub record IsJournal {A : Type 0} (layer text : List ℕ) (records : List (Record A)) (seal torn : List ℕ) (lacks : Bool)
+    : Type 0 where
+  pub is_read : IsReadWhole layer (ended lacks text) records seal torn
+  pub is_tail : IsTail (1 + length records) ((length text - length torn) % 512) (longest layer records) torn
+  pub is_ended : lacks ≡ true → torn ≡ []
 
 -- the text begins with the record of this number, behind the one with this digest
 pub record IsRecord {A : Type 0} (before : List ℕ) (number : ℕ) (text : List ℕ) (it : Record A) (seal rest : List ℕ)
@@ -82,3 +104,15 @@ pub record IsRecord {A : Type 0} (before : List ℕ) (number : ℕ) (text : List
   pub is_text : text ≡ record_text before it.stamp it.edit ++ rest
   pub is_seal : seal ≡ record_seal before it.stamp it.edit
   pub is_number : it.stamp.number ≡ number
+  pub in_lines : IsTwoLines (record_text before it.stamp it.edit)
+
+-- a line of 24 and 64 bytes that begins as a journal's, of whatever layer
+abbrev pub IsHeader : List ℕ → Type 0
+IsHeader text = (layer rest : List ℕ) × (length layer ≡ 64) × (text ≡ header_line layer ++ rest)
+
+-- why a text is no journal of this layer: its first line is no journal's, or that of another layer
+abbrev pub IsHeaderFault : List ℕ → List ℕ → JournalFault → Type 0
+IsHeaderFault layer text NoJournal = IsHeader text → ⊥
+IsHeaderFault layer text OtherLayer = IsHeader text × ((rest : List ℕ) → text ≢ header_line layer ++ rest)
+IsHeaderFault layer text (Changed line) = (rest : List ℕ) × (text ≡ header_line layer ++ rest)
+IsHeaderFault layer text NoMemory = ⊤

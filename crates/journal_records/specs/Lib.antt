@@ -1,2 +1,3 @@
 pub mod Journals
+pub mod Tails
 pub mod Words

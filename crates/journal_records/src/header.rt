@@ -1,8 +1,9 @@
 //! The first line of a journal.
 
-ghost use Rattle.std.specs.Prelude.{◌≡◌, ◌++◌, OnOk};
-ghost use Rattle.journal_records.specs.Journals.{header_line};
+ghost use Rattle.std.specs.Prelude.{◌≡◌, ◌++◌, ◌↔◌, IsTrue, OnOk};
+ghost use Rattle.journal_records.specs.Journals.{header_line, IsHeader};
 
+use crate::parts::behind;
 use crate::seal::{SEAL_BYTES, Seal};
 use std::alloc::{AllocError, Allocator};
 
@@ -21,10 +22,18 @@ pub fn push_header<A: Allocator>(text: &mut Vec<u8, A>, layer: &Seal) -> Result<
 }
 
 /// Whether the first line of a text is that of a journal, of whatever layer.
-pub(crate) fn is_header(text: &[u8]) -> bool {
-    let Some(layer) = text.strip_prefix(b"# gandovel journal 1 mm ") else {
+pub(crate) fn is_header(text: &[u8]) -> bool
+    ensures { IsTrue result ↔ IsHeader text.now }
+{
+    let Some(layer) = behind(text, b"# gandovel journal 1 mm ") else {
         return false;
     };
-    let digits = layer.iter().take_while(|byte| **byte != b'\n');
-    digits.count() == SEAL_BYTES && layer.len() > SEAL_BYTES
+    if layer.len() < SEAL_BYTES {
+        return false;
+    }
+    let (_, rest) = layer.split_at(SEAL_BYTES);
+    match behind(rest, b"\n") {
+        Some(_) => true,
+        None => false,
+    }
 }

@@ -8,6 +8,7 @@ mod parts;
 mod read;
 mod record;
 mod seal;
+mod tails;
 mod word;
 
 pub use header::push_header;
@@ -15,4 +16,5 @@ pub use outline::push_outline;
 pub use read::{JournalFault, Journaled, read_journal};
 pub use record::{Record, Stamp, push_record};
 pub use seal::{SEAL_BYTES, Seal};
+pub use tails::is_two_lines;
 pub use word::{WORD_BYTES, split_word};

@@ -1,13 +1,11 @@
 //! The parts of a journal's text.
 
-ghost use Rattle.std.specs.Prelude.{◌≡◌, ◌≢◌, ◌++◌, ℕ, List, IsTrue, IfOk, IfSome, IfNone, OnOk};
-ghost use Rattle.journal_records.specs.Journals.{IsTorn, record_start};
+ghost use Rattle.std.specs.Prelude.{◌≡◌, ◌≢◌, ◌++◌, ◌∷◌, ℕ, List, IfSome, IfNone, MatchOption};
+ghost use Rattle.std.specs.List.{All};
 
 use crate::record::Stamp;
 use crate::seal::SEAL_BYTES;
 use line_files::read_number;
-use std::alloc::{AllocError, Allocator};
-use text_pieces::push_number;
 
 /// What stands behind a text's beginning; `None` where it begins otherwise.
 pub(crate) fn behind<'t>(text: &'t [u8], beginning: &[u8]) -> Option<&'t [u8]>
@@ -22,8 +20,12 @@ pub(crate) fn behind<'t>(text: &'t [u8], beginning: &[u8]) -> Option<&'t [u8]>
 }
 
 /// What stands before the first line feed of a text, and what behind it; `None` where there is none.
-pub(crate) fn before_line_feed(text: &[u8]) -> Option<(&[u8], &[u8])> {
-    cut_at(text, b'\n')
+pub(crate) fn before_line_feed(text: &[u8]) -> Option<(&[u8], &[u8])>
+    ensures { MatchOption result (All (λ byte. byte ≢ 10) text.now)
+        (λ parts. (text.now ≡ parts.0.now ++ 10 ∷ parts.1.now) × All (λ byte. byte ≢ 10) parts.0.now) }
+{
+    let place = text.iter().position(|byte| *byte == b'\n')?;
+    Some((&text[..place], &text[place + 1..]))
 }
 
 /// What stands before the first such byte of a text, and what behind it.
@@ -53,30 +55,4 @@ pub(crate) fn stamp_of(number: u64, line: &[u8]) -> Option<Stamp<'_>>
         time,
         who,
     })
-}
-
-/// Whether a text may be the beginning of the record of this number, or is empty.
-pub(crate) fn begins_record<A: Allocator>(
-    alloc: A,
-    number: u64,
-    text: &[u8],
-) -> Result<bool, AllocError>
-    ensures { IfOk result (λ begins. IsTrue begins → IsTorn number text.now) }
-{
-    let mut first = Vec::new(alloc);
-    push_start(&mut first, number)?;
-    if behind(text, first.as_slice()).is_some() {
-        return Ok(true);
-    }
-    Ok(behind(first.as_slice(), text).is_some())
-}
-
-/// Adds how the record of this number begins.
-fn push_start<A: Allocator>(text: &mut Vec<u8, A>, number: u64) -> Result<(), AllocError>
-    ensures { OnOk result (text.new.items ≡ text.old.items ++ record_start number) }
-{
-    text.extend_from_slice(b"# ")?;
-    push_number(text, number)?;
-    text.push(b' ')?;
-    Ok(())
 }

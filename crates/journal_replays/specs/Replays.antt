@@ -1,10 +1,12 @@
 -- The edits of a journal, made again (this product's own).
-use Rattle.std.specs.Prelude.{◌≡◌, ℕ, List, ◌∷◌, ◌++◌, map, length}
+use Rattle.std.specs.Prelude.{◌≡◌, ⊤, ℕ, Bool, List, ◌∷◌, ◌++◌, map, length}
 use Rattle.std.specs.List.{flat_map}
 use Rattle.geo_exact.specs.declared.corner.Corner.{Corner}
 use Rattle.geo_exact.specs.Layers.{NumberedRing}
 use Rattle.journal_records.specs.declared.record.Record.{Record}
-use Rattle.journal_records.specs.Journals.{IsJournal, outline_line}
+use Rattle.journal_records.specs.Journals.{IsJournal, IsHeaderFault, outline_line}
+use Rattle.journal_replays.specs.declared.journal_edits.ReplayFault.{ReplayFault}
+use Rattle.journal_replays.specs.declared.journal_edits.ReplayFault.TheVariants.{Journal, Refused}
 use Rattle.fabric_core.specs.declared.refusal.Refusal.{Refusal}
 use Rattle.fabric_core.specs.Journal.{JournalEntry, Book}
 use Rattle.fabric_core.specs.Refusals.{IsRefusal}
@@ -26,13 +28,13 @@ pub record AreMade {A : Type 0} (records : List (Record A)) (before after : Book
   pub opening : after.opening ≡ before.opening
   pub city : after.city ≡ before.city
 
--- the text is a journal of this layer, which has so many records and ends with this digest and so many torn bytes, and
--- its edits lead from one book to another
+-- the text is a journal of this layer, which has so many records and ends with this digest and so many torn bytes, or
+-- lacks its last line feed, and its edits lead from one book to another
 pub record IsReplayed {A : Type 0} (layer text : List ℕ) (before after : Book A) (count : ℕ) (seal : List ℕ)
-    (torn : ℕ) : Type 0 where
+    (torn : ℕ) (lacks : Bool) : Type 0 where
   pub records : List (Record A)
   pub rest : List ℕ
-  pub is_journal : IsJournal layer text records seal rest
+  pub is_journal : IsJournal layer text records seal rest lacks
   pub are_so_many : count ≡ length records
   pub is_torn : torn ≡ length rest
   pub are_made : AreMade records before after
@@ -55,5 +57,11 @@ pub record IsRefusedAt {A : Type 0} (layer text : List ℕ) (before after : Book
   pub records : List (Record A)
   pub seal : List ℕ
   pub torn : List ℕ
-  pub is_journal : IsJournal layer text records seal torn
+  pub lacks : Bool
+  pub is_journal : IsJournal layer text records seal torn lacks
   pub is_stopped : IsStoppedAt records before after number refusal
+
+-- a text is no journal of this layer for what its first line says
+abbrev pub IsReplayFault : List ℕ → List ℕ → ReplayFault → Type 0
+IsReplayFault layer text (Journal fault) = IsHeaderFault layer text fault
+IsReplayFault layer text (Refused number refusal) = ⊤

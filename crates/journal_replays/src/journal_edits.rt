@@ -3,7 +3,7 @@
 ghost use Rattle.std.specs.Prelude.{◌≡◌, ◌⊎◌, ℕ, IfOk, IfErr, IsErrOf, OnOk};
 ghost use Rattle.fabric_core.specs.declared.refusal.Refusal.{Refusal as RefusalValue};
 ghost use Rattle.fabric_core.specs.declared.refusal.Refusal.TheVariants.{NoMemory as NoRoom};
-ghost use Rattle.journal_replays.specs.Replays.{AreMade, IsReplayed, IsStoppedAt, IsRefusedAt};
+ghost use Rattle.journal_replays.specs.Replays.{AreMade, IsReplayed, IsReplayFault, IsStoppedAt, IsRefusedAt};
 
 use fabric_core::{Fabric, Refusal};
 use journal_records::{JournalFault, Journaled, Record, Seal, read_journal};
@@ -25,8 +25,10 @@ pub struct Replayed {
     pub records: u64,
     /// The digest of the last one, or that of the layer.
     pub seal: Seal,
-    /// How many bytes stand behind it: a beginning of a further record.
+    /// How many bytes stand behind it: what a cut has left.
     pub torn: usize,
+    /// Whether its last line feed is missing, and nothing else.
+    pub lacks_end: bool,
 }
 
 /// Makes the edits of a journal that was begun with the layer of this digest, in their order, each as its clerk's: each
@@ -44,7 +46,8 @@ pub fn replay<'h, H: Allocator>(
 ) -> Result<Replayed, ReplayFault>
     ensures ok { IfOk result (λ replayed.
         IsReplayed layer.now.digits text.now fabric.old fabric.new replayed.records
-        replayed.seal.digits replayed.torn) }
+        replayed.seal.digits replayed.torn replayed.lacks_end) }
+    ensures fault { IfErr result (IsReplayFault layer.now.digits text.now) }
     ensures refused { (number : ℕ) (refusal : RefusalValue) → IsErrOf result (ReplayFault.Refused number refusal)
         → IsRefusedAt layer.now.digits text.now fabric.old fabric.new number refusal }
 {
@@ -52,6 +55,7 @@ pub fn replay<'h, H: Allocator>(
         records,
         seal,
         torn,
+        lacks_end,
     } = match read_journal(heap, layer, text) {
         Ok(read) => read,
         Err(fault) => return Err(ReplayFault::Journal(fault)),
@@ -61,6 +65,7 @@ pub fn replay<'h, H: Allocator>(
             records: records.len() as u64,
             seal,
             torn: torn.len(),
+            lacks_end,
         }),
         Err((_, Refusal::NoMemory)) => Err(ReplayFault::Journal(JournalFault::NoMemory)),
         Err((number, refusal)) => Err(ReplayFault::Refused(number, refusal)),

@@ -1,6 +1,6 @@
-//! Files in memory: each call may be made to fail, and a loss of power forgets what was not synchronised.
+//! Files in memory, whose calls may be made to fail, and their synchronisers.
 
-use journal_writers::{FileFailed, JournalFile};
+use journal_writers::{FileFailed, FileId, JournalFile, Synchroniser, Written};
 use std::alloc::Global;
 
 /// A file in memory.
@@ -9,11 +9,10 @@ pub(crate) struct FakeFile<'f> {
     pub(crate) disk: &'f mut FakeDisk,
 }
 
-/// What a file in memory has, and what of it outlasts a loss of power.
+/// What a file in memory has.
 #[derive(Drop)]
 pub(crate) struct FakeDisk {
     pub(crate) text: Vec<u8, Global>,
-    pub(crate) kept: Vec<u8, Global>,
     /// The number of the call that fails, from 1; 0 for none.
     pub(crate) fails_at: u64,
     pub(crate) calls: u64,
@@ -24,7 +23,6 @@ impl FakeDisk {
     pub(crate) fn new(alloc: Global, fails_at: u64) -> FakeDisk {
         FakeDisk {
             text: Vec::new(alloc),
-            kept: Vec::new(alloc),
             fails_at,
             calls: 0,
         }
@@ -38,6 +36,12 @@ impl FakeDisk {
 }
 
 impl<'f> JournalFile for FakeFile<'f> {
+    ghost which = { λ _. record { device = 1; node = 2 } };
+
+    fn id(&self) -> FileId {
+        FileId { device: 1, node: 2 }
+    }
+
     fn append(&mut self, more: &[u8]) -> Result<(), FileFailed> {
         let fails = self.disk.fails();
         // A write that fails leaves half of its bytes.
@@ -53,24 +57,27 @@ impl<'f> JournalFile for FakeFile<'f> {
             Ok(())
         }
     }
+}
 
-    fn cut(&mut self, length: usize) -> Result<(), FileFailed> {
-        if self.disk.fails() {
-            return Err(FileFailed);
-        }
-        self.disk.text.truncate(length);
-        Ok(())
+/// What synchronises a file in memory.
+#[derive(Drop)]
+pub(crate) struct FakeSynchroniser {
+    pub(crate) file: FileId,
+    pub(crate) fails: bool,
+}
+
+impl Synchroniser for FakeSynchroniser {
+    ghost use Rattle.std.specs.Prelude.{⊤};
+
+    ghost of = { λ it. it.file };
+
+    ghost brought = { λ _ _. ⊤ };
+
+    fn id(&self) -> FileId {
+        self.file
     }
 
-    fn synchronise(&mut self) -> Result<(), FileFailed> {
-        if self.disk.fails() {
-            return Err(FileFailed);
-        }
-        let disk = &mut *self.disk;
-        disk.kept.clear();
-        match disk.kept.extend_from_slice(disk.text.as_slice()) {
-            Ok(()) => Ok(()),
-            Err(_) => Err(FileFailed),
-        }
+    fn synchronise(&self, _: &Written) -> Result<(), FileFailed> {
+        if self.fails { Err(FileFailed) } else { Ok(()) }
     }
 }

@@ -1,9 +1,9 @@
 //! Journals that are written to files in memory.
 
-use crate::fakes::{FakeDisk, FakeFile};
+use crate::fakes::{FakeDisk, FakeFile, FakeSynchroniser};
 use crate::written::{JOURNAL, layer};
 use journal_records::{Stamp, read_journal};
-use journal_writers::{FileFailed, JournalWriter};
+use journal_writers::{FileFailed, FileId, JournalWriter, Synced, Written, sync};
 use ring_edits::Edit;
 use std::alloc::Global;
 use std::test::Fail;
@@ -53,15 +53,13 @@ fn one_record_is_written(rt: HostRuntime) -> Result<(), Fail> {
     let mut disk = FakeDisk::new(rt.alloc(), 0);
     assert!(rt; write_one(rt.alloc(), &mut disk)?);
     assert_eq!(rt; disk.text.as_slice(), JOURNAL.get(..FIRST).unwrap_or(&[]));
-    // Only the header was synchronised: a loss of power takes the record.
-    assert_eq!(rt; disk.kept.as_slice(), JOURNAL.get(..HEADER).unwrap_or(&[]));
     Ok(())
 }
 
 #[test]
 fn each_call_fails_in_turn(rt: HostRuntime) -> Result<(), Fail> {
-    // The header's write: it is cut off again. Its synchronisation. The record's write: half of it is left.
-    let lengths = [0, HEADER, HEADER + (FIRST - HEADER) / 2];
+    // The header's write, and the record's: half of each is left.
+    let lengths = [HEADER / 2, HEADER + (FIRST - HEADER) / 2];
     for (at, length) in lengths.iter().enumerate() {
         let mut disk = FakeDisk::new(rt.alloc(), at as u64 + 1);
         assert!(rt; !write_one(rt.alloc(), &mut disk)?);
@@ -70,34 +68,63 @@ fn each_call_fails_in_turn(rt: HostRuntime) -> Result<(), Fail> {
     Ok(())
 }
 
-#[test]
-fn a_torn_record_is_cut_off_and_the_rest_kept(rt: HostRuntime) -> Result<(), Fail> {
-    let mut disk = FakeDisk::new(rt.alloc(), 0);
-    disk.text
-        .extend_from_slice(JOURNAL.get(..FIRST + 7).unwrap_or(&[]))?;
-    let Ok(read) = read_journal(
-        rt.alloc(),
-        &layer(),
-        JOURNAL.get(..FIRST + 7).unwrap_or(&[]),
-    ) else {
+/// Writes what is whole of a text to an empty file, and answers how many records were written there.
+fn write_anew(alloc: Global, disk: &mut FakeDisk, text: &[u8]) -> Result<Written, Fail> {
+    let Ok(read) = read_journal(alloc, &layer(), text) else {
         return Err(Fail::new("not read"));
     };
-    let (count, seal, torn) = (read.records.len() as u64, read.seal, read.torn.len());
-    let file = FakeFile { disk: &mut disk };
+    let (count, seal) = (read.records.len() as u64, read.seal);
+    let whole = text.get(..text.len() - read.torn.len()).unwrap_or(&[]);
     let begun: Result<JournalWriter<FakeFile, Global>, FileFailed> = JournalWriter::go_on(
-        file,
+        FakeFile { disk },
         &layer(),
         count,
         seal,
-        FIRST,
-        torn,
+        whole,
+        read.lacks_end,
     );
-    let Ok(writer) = begun else {
-        return Err(Fail::new("not begun"));
+    match begun {
+        Ok(writer) => Ok(writer.written()),
+        Err(FileFailed) => Err(Fail::new("not begun")),
+    }
+}
+
+#[test]
+fn what_is_whole_is_written_anew(rt: HostRuntime) -> Result<(), Fail> {
+    for length in [FIRST - 1, FIRST, FIRST + 7] {
+        let mut disk = FakeDisk::new(rt.alloc(), 0);
+        let text = JOURNAL.get(..length).unwrap_or(&[]);
+        let written = write_anew(rt.alloc(), &mut disk, text)?;
+        assert_eq!(rt; written.records(), 1);
+        assert_eq!(rt; disk.text.as_slice(), JOURNAL.get(..FIRST).unwrap_or(&[]));
+    }
+    Ok(())
+}
+
+#[test]
+fn only_its_own_files_synchroniser_serves(rt: HostRuntime) -> Result<(), Fail> {
+    let mut disk = FakeDisk::new(rt.alloc(), 0);
+    let written = write_anew(rt.alloc(), &mut disk, JOURNAL)?;
+    let own = FileId { device: 1, node: 2 };
+    for (file, fails) in [
+        (own, true),
+        (FileId { device: 1, node: 3 }, false),
+        (FileId { device: 2, node: 2 }, false),
+    ] {
+        assert!(rt; sync(&FakeSynchroniser { file, fails }, &written).is_err());
+    }
+    let synchroniser = FakeSynchroniser {
+        file: own,
+        fails: false,
     };
-    assert_eq!(rt; writer.records(), 1);
-    drop(writer);
-    assert_eq!(rt; disk.text.as_slice(), JOURNAL.get(..FIRST).unwrap_or(&[]));
-    assert_eq!(rt; disk.kept.as_slice(), JOURNAL.get(..FIRST).unwrap_or(&[]));
+    let Ok(on_disk) = sync(&synchroniser, &written) else {
+        return Err(Fail::new("not synchronised"));
+    };
+    assert_eq!(rt; on_disk.records(), 2);
+    assert_eq!(rt; on_disk.told().records(), on_disk.again().records());
+    let mut synced = Synced::new(on_disk);
+    synced.begin();
+    synced.end(Err(FileFailed));
+    assert!(rt; synced.is_lost() && !synced.is_busy() && synced.has(2) && !synced.has(3));
     Ok(())
 }

@@ -3,12 +3,14 @@ use Rattle.std.specs.Prelude.{◌≡◌, ◌⊎◌, ℕ, ◌+◌, List, [], leng
 use Rattle.ring_edits.specs.declared.edit.Edit.{Edit}
 use Rattle.journal_records.specs.declared.record.Stamp.{Stamp}
 use Rattle.journal_records.specs.declared.record.Record.{Record}
-use Rattle.journal_records.specs.Journals.{IsReadSoFar, record_text, record_seal}
+use Rattle.journal_records.specs.Journals.{IsReadWhole, record_text, record_seal}
+use Rattle.journal_writers.specs.declared.file_id.FileId.{FileId}
 use Rattle.journal_writers.specs.Files.{with_more}
 
--- what a journal shows: the digest of its layer, the bytes of its file, where that tells them, how many records it has,
--- the digest of the last, and whether it could not be written once
+-- what a journal shows: which file it is, the digest of its layer, the bytes of its file, where that tells them, how
+-- many records it has, the digest of the last, and whether it could not be written once
 pub record WriterState : Type 0 where
+  pub file : FileId
   pub layer : List ℕ
   pub bytes : Option (List ℕ)
   pub records : ℕ
@@ -36,7 +38,7 @@ IsDraft A draft = (it : Record A) × IsDraftOf draft it.stamp it.edit
 -- the digest of the one before, and the last with this digest
 pub record IsKept (A : Type 0) (layer bytes : List ℕ) (records : ℕ) (seal : List ℕ) : Type 0 where
   pub written : List (Record A)
-  pub are_lines : IsReadSoFar layer bytes written seal []
+  pub are_lines : IsReadWhole layer bytes written seal []
   pub count : length written ≡ records
 
 -- so they are, where the file tells its bytes, unless a write failed
@@ -45,15 +47,6 @@ IsKeptUnlessBroken A journal =
     (journal.is_broken ≡ true)
     ⊎ IfSome journal.bytes (λ bytes. IsKept A journal.layer bytes journal.records journal.seal)
 
--- the bytes are those of such a journal, and so many torn bytes behind so many whole ones
-pub record IsFound (A : Type 0) (layer bytes : List ℕ) (records : ℕ) (seal : List ℕ) (whole torn : ℕ) : Type 0 where
-  pub written : List (Record A)
-  pub rest : List ℕ
-  pub are_lines : IsReadSoFar layer bytes written seal rest
-  pub count : length written ≡ records
-  pub is_torn : torn ≡ length rest
-  pub is_whole : whole + torn ≡ length bytes
-
 -- a journal has one record more, with this stamp and this edit, under the next number
 pub record HasOneMore {A : Type 0} (before after : WriterState) (stamp : Stamp) (edit : Edit A) : Type 0 where
   pub bytes : after.bytes ≡ with_more (record_text before.seal stamp edit) before.bytes
@@ -61,4 +54,5 @@ pub record HasOneMore {A : Type 0} (before after : WriterState) (stamp : Stamp) 
   pub records : after.records ≡ stamp.number
   pub seal : after.seal ≡ record_seal before.seal stamp edit
   pub layer : after.layer ≡ before.layer
+  pub file : after.file ≡ before.file
   pub whole : after.is_broken ≡ before.is_broken

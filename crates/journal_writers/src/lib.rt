@@ -4,10 +4,12 @@
 
 mod draft;
 mod file;
+mod file_id;
 mod synced;
 mod writer;
 
 pub use draft::Draft;
 pub use file::{FileFailed, JournalFile};
-pub use synced::{OnDisk, Synced, Synchroniser, sync};
+pub use file_id::FileId;
+pub use synced::{DiskHas, OnDisk, Synced, Synchroniser, Written, sync};
 pub use writer::JournalWriter;

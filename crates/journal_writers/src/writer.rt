@@ -1,14 +1,15 @@
 //! The writer of a journal.
 
-ghost use Rattle.std.specs.Prelude.{◌≡◌, ◌+◌, ◌^◌, ◌<◌, ◌==◌, [], false, true, if◌then◌else◌, IfOk};
+ghost use Rattle.std.specs.Prelude.{◌≡◌, ◌+◌, ◌^◌, ◌<◌, [], false, true, IfOk};
 ghost use Rattle.std.specs.Prelude.{IfSome, OnOk, OnErr};
-ghost use Rattle.journal_records.specs.Journals.{header_line, record_text, record_seal};
-ghost use Rattle.journal_writers.specs.Files.{with_more, with_first};
-ghost use Rattle.journal_writers.specs.Writers.{IsDraftOf, IsKeptUnlessBroken, IsFound};
+ghost use Rattle.journal_records.specs.Journals.{header_line, record_text, record_seal, ended};
+ghost use Rattle.journal_writers.specs.Files.{with_more};
+ghost use Rattle.journal_writers.specs.Writers.{IsDraftOf, IsKept, IsKeptUnlessBroken};
 
 use crate::draft::Draft;
 use crate::file::{FileFailed, JournalFile};
-use journal_records::{Seal, Stamp, push_header, push_record};
+use crate::synced::Written;
+use journal_records::{Seal, Stamp, is_two_lines, push_header, push_record};
 use ring_edits::Edit;
 use std::alloc::{AllocError, Allocator};
 use std::marker::{Model, PhantomData};
@@ -16,8 +17,8 @@ use std::marker::{Model, PhantomData};
 /// A journal that is written: unless a write failed, its file has the header of its layer and the lines of its records,
 /// in order, and nothing else. Once a write failed, none is made any more.
 ///
-/// Contracts see the digest of its layer, the bytes of its file, where that tells them, how many records it has, the
-/// digest of the last (of the layer, where there is none), and whether a write failed.
+/// Contracts see which file it is, the digest of its layer, the bytes of its file, where that tells them, how many
+/// records it has, the digest of the last (of the layer, where there is none), and whether a write failed.
 #[derive(Drop)]
 pub struct JournalWriter<K: JournalFile, B: Allocator> {
     file: K,
@@ -34,6 +35,7 @@ impl<K: JournalFile, B: Allocator> Model for JournalWriter<K, B> {
     ghost Value = { WriterState };
 
     ghost view = { λ writer. record {
+      file = K.which writer.file;
       layer = writer.layer.digits;
       bytes = K.bytes writer.file;
       records = writer.records;
@@ -42,6 +44,7 @@ impl<K: JournalFile, B: Allocator> Model for JournalWriter<K, B> {
     } };
 
     ghost invariant = { λ writer. IsKeptUnlessBroken B (record {
+      file = K.which writer.file;
       layer = writer.layer.digits;
       bytes = K.bytes writer.file;
       records = writer.records;
@@ -51,18 +54,18 @@ impl<K: JournalFile, B: Allocator> Model for JournalWriter<K, B> {
 }
 
 impl<K: JournalFile, B: Allocator> JournalWriter<K, B> {
-    /// Begins the journal of a layer in an empty file, whose header the disk has then. A file that could not be written
-    /// is empty again, if it could be cut.
+    /// Begins the journal of a layer in an empty file.
     ///
     /// # Errors
     ///
-    /// [`FileFailed`], also where memory is refused.
+    /// [`FileFailed`], also where memory is refused. A beginning of the header may be written then.
     pub fn begin<A: Allocator>(
         alloc: A,
         file: K,
         layer: &Seal,
     ) -> Result<JournalWriter<K, B>, FileFailed>
         requires empty { IfSome (K.bytes file) (λ bytes. bytes ≡ []) }
+        ensures file { IfOk result (λ writer. writer.file ≡ K.which file) }
         ensures bytes { IfOk result (λ writer.
             writer.bytes ≡ with_more (header_line layer.now.digits) (K.bytes file)) }
         ensures layer { IfOk result (λ writer. writer.layer ≡ layer.now.digits) }
@@ -75,12 +78,7 @@ impl<K: JournalFile, B: Allocator> JournalWriter<K, B> {
         let Ok(()) = push_header(&mut header, layer) else {
             return Err(FileFailed);
         };
-        if file.append(header.as_slice()).is_err() {
-            // A beginning of the header would be refused at the next start.
-            let _ = file.cut(0);
-            return Err(FileFailed);
-        }
-        file.synchronise()?;
+        file.append(header.as_slice())?;
         Ok(JournalWriter {
             file,
             layer: *layer,
@@ -91,34 +89,32 @@ impl<K: JournalFile, B: Allocator> JournalWriter<K, B> {
         })
     }
 
-    /// Goes on with a journal of this layer, of so many records, the last with this digest, and of so many bytes: what
-    /// is torn behind them is cut off, and the disk has the rest then.
+    /// Goes on, in an empty file, with a journal of this layer, of so many records, the last with this digest: its text
+    /// is written to the file, with the line feed that it lacks at its end.
     ///
     /// # Errors
     ///
-    /// [`FileFailed`].
+    /// [`FileFailed`]. A beginning of the text may be written then.
     pub fn go_on(
         file: K,
         layer: &Seal,
         records: u64,
         seal: Seal,
-        whole: usize,
-        torn: usize,
+        text: &[u8],
+        lacks_end: bool,
     ) -> Result<JournalWriter<K, B>, FileFailed>
-        requires found { IfSome (K.bytes file) (λ bytes.
-            IsFound B layer.now.digits bytes records seal.digits whole torn) }
-        ensures layer { IfOk result (λ writer. writer.layer ≡ layer.now.digits) }
+        requires empty { IfSome (K.bytes file) (λ bytes. bytes ≡ []) }
+        requires kept { IsKept B layer.now.digits (ended lacks_end text.now) records seal.digits }
+        ensures file { IfOk result (λ writer. writer.file ≡ K.which file) }
         ensures bytes { IfOk result (λ writer.
-            writer.bytes ≡ (if torn == 0 then K.bytes file else with_first whole (K.bytes file))) }
+            writer.bytes ≡ with_more (ended lacks_end text.now) (K.bytes file)) }
+        ensures layer { IfOk result (λ writer. writer.layer ≡ layer.now.digits) }
         ensures records { IfOk result (λ writer. writer.records ≡ records) }
         ensures seal { IfOk result (λ writer. writer.seal ≡ seal.digits) }
         ensures whole { IfOk result (λ writer. writer.is_broken ≡ false) }
     {
         let mut file = file;
-        if torn != 0 {
-            file.cut(whole)?;
-        }
-        file.synchronise()?;
+        append_ended(&mut file, text, lacks_end)?;
         Ok(JournalWriter {
             file,
             layer: *layer,
@@ -158,11 +154,22 @@ impl<K: JournalFile, B: Allocator> JournalWriter<K, B> {
         self.is_broken = true;
     }
 
-    /// Has the file be empty again, if it can be cut.
-    pub fn empty(self) {
-        let JournalWriter { file, .. } = self;
-        let mut file = file;
-        let _ = file.cut(0);
+    /// That its records were written.
+    pub fn written(&self) -> Written
+        ensures file { result.file ≡ self.now.file }
+        ensures records { result.records ≡ self.now.records }
+    {
+        Written {
+            file: self.file.id(),
+            records: self.records,
+        }
+    }
+
+    /// What it is written to.
+    pub fn file(&self) -> &K
+        ensures { K.which result.now ≡ self.now.file }
+    {
+        &self.file
     }
 
     /// The record with this stamp and this edit, behind those that there are. Nothing is written.
@@ -194,11 +201,12 @@ impl<K: JournalFile, B: Allocator> JournalWriter<K, B> {
     ///
     /// # Errors
     ///
-    /// [`FileFailed`] where it could not be written, is not the next one, or a write failed before.
+    /// [`FileFailed`] where it could not be written, is not the next one or not two lines, or a write failed before.
     /// Nothing is written from then on.
     pub fn add<A: Allocator>(&mut self, draft: &Draft<A, B>) -> Result<(), FileFailed>
         ensures bytes { OnOk result (self.new.bytes ≡ with_more draft.now.text self.old.bytes) }
         ensures layer { OnOk result (self.new.layer ≡ self.old.layer) }
+        ensures file { self.new.file ≡ self.old.file }
         ensures follows { OnOk result (draft.now.before ≡ self.old.seal) }
         ensures next { OnOk result (draft.now.number ≡ self.old.records + 1) }
         ensures records { OnOk result (self.new.records ≡ draft.now.number) }
@@ -213,10 +221,30 @@ impl<K: JournalFile, B: Allocator> JournalWriter<K, B> {
         if draft.before != self.seal || self.records.checked_add(1) != Some(draft.number) {
             return Err(FileFailed);
         }
+        if !is_two_lines(draft.text.as_slice()) {
+            return Err(FileFailed);
+        }
         self.file.append(draft.text.as_slice())?;
         self.records = draft.number;
         self.seal = draft.seal;
         self.is_broken = false;
+        Ok(())
+    }
+}
+
+/// Adds a text to a file, with the line feed that it lacks at its end.
+fn append_ended<K: JournalFile>(
+    file: &mut K,
+    text: &[u8],
+    lacks_end: bool,
+) -> Result<(), FileFailed>
+    ensures bytes { OnOk result (K.bytes file.new ≡ with_more (ended lacks_end text.now) (K.bytes file.old)) }
+    ensures same { OnOk result (K.which file.new ≡ K.which file.old) }
+{
+    file.append(text)?;
+    if lacks_end {
+        file.append(b"\n")
+    } else {
         Ok(())
     }
 }

@@ -20,6 +20,7 @@ use Rattle.desk_lock.specs.contracts.window.Window as Window
 use Rattle.entry_history.specs.declared.history.Naming as histories
 use Rattle.desk_lock.specs.declared.name.Naming as offices
 use Rattle.journal_writers.specs.declared.file.JournalFile as files
+use Rattle.journal_writers.specs.declared.synced.Synchroniser as synchronisers
 use Rattle.session_rooms.specs.contracts.door.Door as Door
 use Rattle.session_rooms.specs.contracts.journal.Journal as Journal
 use Rattle.session_rooms.specs.contracts.room.Room as Room
@@ -36,9 +37,9 @@ door_sync = search (sendable, own_crosses) depth 20
 file_send : IsSend DiskFile.the_field.row
 file_send = search (sendable, own_crosses) depth 20
 
-journal_sync : (F A K : RattleType) (f : files.Ghosts F.Denot) (a : Ghosts A.Denot) → IsSend F → IsSync K
-    → IsSync (Journal.the_field F A K f a).row
-journal_sync F A K f a s y = search (sendable, own_crosses) depth 20
+journal_sync : (F A K : RattleType) (f : files.Ghosts F.Denot) (a : Ghosts A.Denot) (b : synchronisers.Ghosts K.Denot) → IsSend F
+    → IsSend K → IsSync K → IsSync (Journal.the_field F A K f a b).row
+journal_sync F A K f a b s l y = search (sendable, own_crosses) depth 20
 
 paths_sync : (A : RattleType) (a : Ghosts A.Denot) → IsSync A → IsSync (Paths.the_field A a).row
 paths_sync A a y = search (sendable, crosses, own_crosses) depth 20
@@ -61,9 +62,11 @@ module _ (H J : RattleType) (g : Ghosts H.Denot) (n : offices.Ghosts J.Denot H.D
     pub desk_send : (p κ : NamedLft) → IsSend (Desk.the_field p κ H J g n h).row
     desk_send p κ = search (chair_send, paths_sync, sendable, own_crosses) depth 20
 
-  module _ (R K : RattleType) (y : IsSync H) (f : Frees g g.dealloc_token) (r : IsSync R) (k : IsSync K) where
-    room_sync : (F : RattleType) (c : files.Ghosts F.Denot) (ρ κ : NamedLft) → IsSend F → IsSync (Room.the_field ρ κ H J R F K n h g c).row
+  module _ (R K : RattleType) (b : synchronisers.Ghosts K.Denot) (y : IsSync H) (f : Frees g g.dealloc_token) (r : IsSync R)
+      (l : IsSend K) (k : IsSync K) where
+    room_sync : (F : RattleType) (c : files.Ghosts F.Denot) (ρ κ : NamedLft) → IsSend F
+        → IsSync (Room.the_field ρ κ H J R F K n h g c b).row
     room_sync F c ρ κ s = search (office_sync, journal_sync, door_sync, sendable, own_crosses) depth 20
 
-    pub shared_sync : (P : RattleType) → IsSync P → (σ ρ κ : NamedLft) → IsSync (Shared.the_field σ ρ κ P H J R K n h g).row
+    pub shared_sync : (P : RattleType) → IsSync P → (σ ρ κ : NamedLft) → IsSync (Shared.the_field σ ρ κ P H J R K n h g b).row
     shared_sync P q σ ρ κ = search (room_sync, file_send, paths_sync, sendable) depth 20

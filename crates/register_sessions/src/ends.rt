@@ -20,6 +20,9 @@ const LONGEST_WAIT: u64 = 32;
 /// reads takes its last answers in that time; one that does not is cut off.
 const WAITS: usize = 36;
 
+/// How many desks there are at most.
+const MOST_DESKS: usize = 8;
+
 /// A desk's pipes as the other end has them.
 #[derive(Drop)]
 struct Ends<'p, A: Allocator> {
@@ -29,33 +32,33 @@ struct Ends<'p, A: Allocator> {
 }
 
 /// Has all desks take no further line, and wakes those that wait for a client or for a line. The answers of a client
-/// that does not read are taken in its place, so that its desk ends.
-pub(crate) fn close_desks<P: Pipes, R: Wait, A: Allocator, B: Allocator + Copy>(
+/// that does not read are taken in its place, so that its desk ends. It asks for no memory.
+pub(crate) fn close_desks<P: Pipes, R: Wait, A: Allocator>(
     rt: &R,
-    alloc: B,
     door: &Door,
     pipes: &P,
     paths: &[Paths<A>],
 ) {
     door.close(rt);
-    let (mut held, mut ends) = (Vec::new(alloc), Vec::new(alloc));
-    for desk in paths {
+    let mut held = [None, None, None, None, None, None, None, None];
+    let mut ends = [None, None, None, None, None, None, None, None];
+    for place in 0..MOST_DESKS {
         // A pipe that is gone by now wakes nobody.
-        if let Ok((both, end)) = open_ends(pipes, desk) {
-            let _ = held.push(both);
-            let _ = ends.push(end);
+        if let Some(Ok((both, end))) = paths.get(place).map(|desk| open_ends(pipes, desk)) {
+            held[place] = Some(both);
+            ends[place] = Some(end);
         }
     }
     door.wait_for_all(rt);
     // From here on a desk that ends is seen at the other end.
     drop(held);
-    for end in ends.iter() {
+    for end in ends.iter().flatten() {
         if end.paths.asks.load(Ordering::SeqCst) {
             let _ = wake(&end.lines);
         }
     }
     wait_for_desks(pipes, paths);
-    for end in ends.iter() {
+    for end in ends.iter().flatten() {
         if end.paths.serves.load(Ordering::SeqCst) {
             take_all(&end.answers);
         }

@@ -1,9 +1,11 @@
 //! The file of a journal on the disk.
 
+ghost use Rattle.std.specs.Prelude.{◌≡◌};
+
 use city_layers::Disk;
-use journal_writers::{FileFailed, JournalFile, Synchroniser};
+use journal_writers::{FileFailed, FileId, JournalFile, Synchroniser, Written};
 use session_rooms::Clocked;
-use std::fs::File;
+use std::fs::{File, Metadata};
 use std::io;
 use std::io::{ErrorKind, Write};
 use std::os::unix::fs::MetadataExt;
@@ -33,7 +35,11 @@ impl<'a, R: Files + Clock> Machine for Disk<'a, R> {
     }
 
     fn seconds(&self) -> io::Result<i64> {
-        match i64::try_from(self.0.since_1970()?.as_secs()) {
+        // A clock that stands before 1970 is taken as 1970.
+        let Ok(since) = self.0.since_1970() else {
+            return Ok(0);
+        };
+        match i64::try_from(since.as_secs()) {
             Ok(seconds) => Ok(seconds),
             Err(_) => Err(io::Error::from(ErrorKind::InvalidData)),
         }
@@ -43,26 +49,76 @@ impl<'a, R: Files + Clock> Machine for Disk<'a, R> {
 /// A journal's file on the disk, as it is written.
 #[derive(Drop)]
 pub(crate) struct DiskFile {
-    pub(crate) file: File,
+    file: File,
+    id: FileId,
+    /// As the last write left it.
+    left: Traces,
+}
+
+/// What shows that somebody else has written to a file: its length, and when it was last written.
+#[derive(Clone, Copy, PartialEq, Eq)]
+struct Traces {
+    length: u64,
+    seconds: i64,
+    nanoseconds: i64,
+}
+
+impl DiskFile {
+    /// An empty file that is opened to append, and held.
+    pub(crate) fn new(file: File) -> io::Result<DiskFile> {
+        let metadata = file.metadata()?;
+        Ok(DiskFile {
+            file,
+            id: id_of(&metadata),
+            left: traces_of(&metadata),
+        })
+    }
+
+    /// The file.
+    pub(crate) fn file(&self) -> &File {
+        &self.file
+    }
+
+    /// Adds bytes at the end of the file, unless somebody else has written to it.
+    fn add(&mut self, more: &[u8]) -> io::Result<()>
+        ensures { self.new.id ≡ self.old.id }
+    {
+        if traces_of(&self.file.metadata()?) != self.left {
+            return Err(io::Error::from(ErrorKind::InvalidData));
+        }
+        self.file.write_all(more)?;
+        self.left = traces_of(&self.file.metadata()?);
+        Ok(())
+    }
+}
+
+/// Which file this is.
+fn id_of(metadata: &Metadata) -> FileId {
+    FileId {
+        device: metadata.dev(),
+        node: metadata.ino(),
+    }
+}
+
+/// What a write leaves of itself.
+fn traces_of(metadata: &Metadata) -> Traces {
+    Traces {
+        length: metadata.len(),
+        seconds: metadata.mtime(),
+        nanoseconds: metadata.mtime_nsec(),
+    }
 }
 
 impl JournalFile for DiskFile {
+    ghost which = { λ it. it.id };
+
+    fn id(&self) -> FileId {
+        self.id
+    }
+
+    /// A file that somebody else has written to is lost.
     fn append(&mut self, more: &[u8]) -> Result<(), FileFailed> {
-        match self.file.write_all(more) {
-            Ok(()) => Ok(()),
-            Err(_) => Err(FileFailed),
-        }
-    }
-
-    fn cut(&mut self, length: usize) -> Result<(), FileFailed> {
-        match self.file.set_len(length as u64) {
-            Ok(()) => Ok(()),
-            Err(_) => Err(FileFailed),
-        }
-    }
-
-    fn synchronise(&mut self) -> Result<(), FileFailed> {
-        match self.file.sync_data() {
+        match self.add(more) {
             Ok(()) => Ok(()),
             Err(_) => Err(FileFailed),
         }
@@ -72,14 +128,42 @@ impl JournalFile for DiskFile {
 /// The same file, as it is synchronised.
 #[derive(Drop)]
 pub struct DiskSynchroniser<'m, P> {
-    pub(crate) machine: &'m P,
-    pub(crate) path: &'m str,
-    pub(crate) file: File,
+    machine: &'m P,
+    path: &'m str,
+    file: File,
+    id: FileId,
+}
+
+impl<'m, P> DiskSynchroniser<'m, P> {
+    /// A synchroniser of the file that is at this path of a machine.
+    pub(crate) fn new(
+        machine: &'m P,
+        path: &'m str,
+        file: &DiskFile,
+    ) -> io::Result<DiskSynchroniser<'m, P>> {
+        Ok(DiskSynchroniser {
+            machine,
+            path,
+            file: file.file.try_clone()?,
+            id: file.id,
+        })
+    }
 }
 
 impl<'m, P: Machine> Synchroniser for DiskSynchroniser<'m, P> {
+    ghost use Rattle.std.specs.Prelude.{⊤};
+
+    ghost of = { λ it. it.id };
+
+    // The kit's files say nothing of the disk.
+    ghost brought = { λ _ _. ⊤ };
+
+    fn id(&self) -> FileId {
+        self.id
+    }
+
     /// A file that was moved or unlinked is lost, whatever the disk holds of it.
-    fn synchronise(&self) -> Result<(), FileFailed> {
+    fn synchronise(&self, _: &Written) -> Result<(), FileFailed> {
         match is_kept(self.machine, self.path, &self.file) {
             Ok(true) => Ok(()),
             _ => Err(FileFailed),

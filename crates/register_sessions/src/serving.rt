@@ -12,6 +12,7 @@ use crate::threads::{Done, Host, Task, run_beside};
 use city_layers::ToolFault;
 use desk_lock::{Card, CloseFault, Naming, Office};
 use geo_exact::ByteOut;
+use journal_writers::DiskHas;
 use session_lines::{SessionFault, push_closed, push_error};
 use session_rooms::{Chair, Clocked, Room};
 use std::alloc::{AllocError, Allocator};
@@ -83,7 +84,7 @@ impl<
             let _ = serve_operator(with.room, with.disk, &mut operator, &mut reader, &mut out);
         }
         let room = with.room;
-        close_desks(room.rt, room.heap, &room.door, with.disk, with.paths);
+        close_desks(room.rt, &room.door, with.disk, with.paths);
         Reception {
             operator,
             reader,
@@ -108,7 +109,7 @@ pub(crate) fn serve<
     R: Threads + Wait + Sync,
     H: Allocator + Send + Sync,
     J: Naming<H> + Send + Sync,
-    K: Clocked + Sync,
+    K: Clocked + Send + Sync,
     I: Read + Drop,
     W: ByteOut + Drop,
 >(
@@ -186,11 +187,14 @@ fn push_end_of<'h, H: Allocator, J: Naming<H>, R: Wait>(
     rt: &R,
     office: Office<'h, H, J, &R>,
     cards: Vec<Card<'h, H, J>, &'h H>,
-    kept: Option<u64>,
+    kept: Option<DiskHas>,
     text: &mut Vec<u8, &'h H>,
 ) -> Result<(), AllocError> {
     match office.close(rt, cards) {
-        Ok(fabric) => push_closed(text, kept.unwrap_or(fabric.entries())),
+        Ok(fabric) => match kept {
+            Some(on_disk) => push_closed(text, on_disk.records()),
+            None => push_closed(text, fabric.entries()),
+        },
         Err((_, _, CloseFault::CardsMissing(clerks, cards))) => {
             push_error(text, SessionFault::CardsMissing(clerks, cards))
         }

@@ -6,7 +6,9 @@ ghost use Rattle.desk_lock.specs.Offices.{origin_of};
 ghost use Rattle.session_rooms.specs.Starts.{IsBehind, IsMarked};
 ghost use Rattle.register_sessions.specs.StartFaults.{IsToldOf, IsToldRefused};
 
-use crate::found_journal::{FoundJournal, find_journal};
+use crate::found_journal::{
+    FoundJournal, find_journal, make_next, remove_next, set_aside, take_place,
+};
 use crate::journal_file::{DiskFile, DiskSynchroniser, Machine};
 use crate::offices::{clerks_of, seat_all, windows_of};
 use crate::operator::Operator;
@@ -18,18 +20,19 @@ use crate::start_fault::StartFault;
 use city_layers::{Disk, ToolFault, read_source, read_text};
 use clerk_runs::push_refusal;
 use desk_lock::{Name, Naming, Office};
-use fabric_core::{Fabric, Layer, Refusal};
+use fabric_core::{Entry, Fabric, Layer, Refusal};
 use geo_exact::{Counted, Unit};
 use journal_records::{JournalFault, Seal};
 use journal_replays::{ReplayFault, Replayed};
-use journal_writers::sync;
+use journal_writers::{JournalWriter, sync};
+use line_files::read_clerk;
 use parcel_runs::refuse_many_clerks;
 use session_rooms::{
     BeginFault, Begun, Clocked, EDITS_CLERK, EditsFault, Journal, Room, Sources, add_entries,
     begin_register, begin_writer, make_edits, ready_text, time_of,
 };
 use std::alloc::Allocator;
-use std::fs::File;
+use std::fs::{File, OpenOptions};
 use std::io;
 use std::io::{BufReader, Input};
 use std::marker::Brand;
@@ -71,11 +74,22 @@ pub fn serve_session<
     P: Pipes + Exports + Machine + Sync,
     H: Allocator + Send + Sync,
 >(rt: &R, disk: &'a P, heap: &'h H, plan: &Plan<'a>) -> Result<(), StartFault<'a, &'h H>> {
+    // Held to the end: no file of the session gets the number of one of the three that was closed at its start.
+    let standard = (open_null(rt), open_null(rt), open_null(rt));
     refuse_many_clerks(plan.desks.len())?;
     let paths = find_pipes(rt, heap, plan.desks.as_slice())?;
     let served = serve_at(rt, disk, heap, plan, paths.as_slice());
     let_go(rt, paths.as_slice());
+    drop(standard);
     served
+}
+
+/// What reads as empty, and takes all that is written: it gets the lowest number that is free.
+fn open_null<F: Files<File = File>>(files: &F) -> io::Result<File> {
+    OpenOptions::new()
+        .read(true)
+        .write(true)
+        .open(files, "/dev/null")
 }
 
 /// The same at these pipes.
@@ -139,7 +153,13 @@ fn open_register<
     if edits.is_some() && !found.text.is_empty() {
         return Err(StartFault::JournalBegun(path));
     }
-    let begun = begin(rt, heap, plan, &sources, path, found.text.as_slice())?;
+    let begun = match begin(rt, heap, plan, &sources, path, found.text.as_slice()) {
+        Ok(begun) => begun,
+        Err(fault) => {
+            tell_old(rt, heap, found.text.as_slice(), &fault);
+            return Err(fault);
+        }
+    };
     let Begun {
         fabric,
         zones,
@@ -153,6 +173,32 @@ fn open_register<
         zones,
         journal: Some(journal),
     })
+}
+
+/// Where a file is no journal, and is lines of edits, as a journal was in version 1.0, says how to go on with it.
+fn tell_old<'h, R: Eprint, H: Allocator>(
+    rt: &R,
+    heap: &'h H,
+    text: &[u8],
+    fault: &StartFault<'_, &'h H>,
+) {
+    let StartFault::NoJournal(path) = fault else {
+        return;
+    };
+    if has_edits(heap, text) {
+        // Where standard error fails there is nobody left to tell.
+        let _ = eprintln!(rt;
+            "note: {path}: lines of edits, as a journal of version 1.0; --clerk {path} --journal NEW begins with them"
+        );
+    }
+}
+
+/// Whether a text is lines of edits, of at least one.
+fn has_edits<A: Allocator + Copy>(alloc: A, text: &[u8]) -> bool {
+    match read_clerk(alloc, text) {
+        Ok(edits) => !edits.is_empty(),
+        Err(_) => false,
+    }
 }
 
 /// Reads the files of a register's layers.
@@ -212,9 +258,11 @@ fn edited<'a, 'h, H: Allocator>(
     }
 }
 
-/// Has a journal ready to be written: the disk has all of it then. A torn record is cut off, and told; entries of the
-/// register that it has not yet are added.
-fn begin_journal<'a, 'h, R: Eprint, P: Machine, H: Allocator>(
+/// Has a journal ready to be written: a new file has all that is whole of it, and takes its place; the disk has that
+/// then. So no page is trusted that another session could not write, and that was never read from the disk. What stands
+/// behind the last whole record is set aside in a file of its own, and reported; entries of the register that the
+/// journal has not yet are added.
+fn begin_journal<'a, 'h, R: Files<File = File> + Eprint, P: Machine, H: Allocator>(
     rt: &R,
     machine: &'a P,
     heap: &'h H,
@@ -225,40 +273,89 @@ fn begin_journal<'a, 'h, R: Eprint, P: Machine, H: Allocator>(
 ) -> Result<Journal<DiskFile, &'h H, DiskSynchroniser<'a, P>>, StartFault<'a, &'h H>>
     requires { IsMarked (Bor H) found.text.items replayed.now layer.now }
 {
-    let FoundJournal { path, file, text } = found;
-    let Ok(again) = file.try_clone() else {
+    let path = found.path;
+    let entries = fabric.journal();
+    let begun = match make_next(rt, heap, &found) {
+        Ok(next) => fill_next(heap, next, entries, layer, replayed, machine, &found),
+        Err(_) => return Err(StartFault::JournalUnreadable(path)),
+    };
+    let (writer, synchroniser) = match begun {
+        Ok(begun) => begun,
+        Err(fault) => {
+            remove_next(rt, heap, &found);
+            return Err(fault);
+        }
+    };
+    if tell_torn(rt, heap, replayed, &found).is_err()
+        || take_place(rt, heap, &found, writer.file().file()).is_err()
+    {
+        remove_next(rt, heap, &found);
+        return Err(StartFault::JournalUnreadable(path));
+    }
+    match sync(&synchroniser, &writer.written()) {
+        Ok(on_disk) => Ok(Journal::new(writer, synchroniser, on_disk)),
+        Err(_) => Err(StartFault::JournalUnreadable(path)),
+    }
+}
+
+/// Writes what is whole of a journal, and the entries that it has not yet, to the file that takes its place.
+fn fill_next<'a, 'h, P: Machine, H: Allocator>(
+    heap: &'h H,
+    next: File,
+    entries: &[Entry<&'h H>],
+    layer: &Seal,
+    replayed: &Replayed,
+    machine: &'a P,
+    found: &FoundJournal<'a, &'h H>,
+) -> Result<(JournalWriter<DiskFile, &'h H>, DiskSynchroniser<'a, P>), StartFault<'a, &'h H>>
+    requires { IsMarked (Bor H) found.now.text.items replayed.now layer.now }
+{
+    let path = found.path;
+    let Ok(next) = DiskFile::new(next) else {
         return Err(StartFault::JournalUnreadable(path));
     };
-    let synchroniser = DiskSynchroniser {
-        machine,
-        path,
-        file: again,
+    let Ok(synchroniser) = DiskSynchroniser::new(machine, path, &next) else {
+        return Err(StartFault::JournalUnreadable(path));
     };
-    let begun = begin_writer(heap, DiskFile { file }, text.as_slice(), layer, replayed);
+    let begun = begin_writer(heap, next, found.text.as_slice(), layer, replayed);
     let Ok(mut writer) = begun else {
         return Err(StartFault::JournalUnreadable(path));
     };
-    let torn = replayed.torn;
-    if torn > 0 {
-        // Where standard error fails there is nobody left to tell.
-        let _ = eprintln!(rt;
-            "note: {path}: a last record of {torn} bytes without its end is cut off"
-        );
-    }
-    let entries = fabric.journal();
     if writer.records() == 0 && !entries.is_empty() {
         let Some(time) = time_of(heap, &synchroniser)? else {
             return Err(StartFault::JournalUnreadable(path));
         };
         if add_entries(heap, &mut writer, time.as_bytes(), entries).is_err() {
-            writer.empty();
             return Err(StartFault::JournalUnreadable(path));
         }
     }
-    match sync(&synchroniser, writer.records()) {
-        Ok(on_disk) => Ok(Journal::new(writer, synchroniser, on_disk)),
-        Err(_) => Err(StartFault::JournalUnreadable(path)),
+    Ok((writer, synchroniser))
+}
+
+/// Sets aside what stands behind the last whole record of a journal, and says so, and where its last line feed was
+/// missing.
+fn tell_torn<'a, 'h, R: Files<File = File> + Eprint, H: Allocator>(
+    rt: &R,
+    heap: &'h H,
+    replayed: &Replayed,
+    found: &FoundJournal<'a, &'h H>,
+) -> io::Result<()> {
+    let path = found.path;
+    let text = found.text.as_slice();
+    let torn = replayed.torn;
+    if torn > 0 && torn <= text.len() {
+        let aside = set_aside(rt, heap, found, &text[text.len() - torn..])?;
+        // Where standard error fails there is nobody left to tell.
+        let _ = eprintln!(rt;
+            "note: {path}: {torn} bytes after the last whole record are set aside as {aside}"
+        );
     }
+    if replayed.lacks_end {
+        let _ = eprintln!(rt;
+            "note: {path}: the end of the last line was missing, and is completed"
+        );
+    }
+    Ok(())
 }
 
 /// The user-facing error for a journal whose edits are not made again.
@@ -305,7 +402,7 @@ fn at_office<
     R: Input + Print + Threads + Wait + Sync,
     P: Pipes + Exports + Machine + Sync,
     H: Allocator + Send + Sync,
-    K: Clocked + Sync,
+    K: Clocked + Send + Sync,
     J: Naming<H> + Send + Sync,
 >(
     rt: &R,

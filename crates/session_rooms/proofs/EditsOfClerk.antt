@@ -1,10 +1,13 @@
 -- Edits of a clerk's file that are made one after the other.
-use Rattle.std.proofs.Common.{◌≡◌, refl, sym, ap, ◌∙◌, ℕ, List, [], ◌∷◌, ◌++◌, map}
+use Rattle.std.proofs.Common.{◌≡◌, ◌⊎◌, inl, inr, refl, sym, ap, ◌∙◌, subst, ℕ, suc, List, [], ◌∷◌, ◌++◌, map, take, drop}
 use Rattle.std.proofs.Common.{append_assoc, append-nil}
 use Rattle.std.proofs.lemmas.List.{map-append}
 use Rattle.ring_edits.specs.declared.edit.Edit.{Edit}
 use Rattle.fabric_core.specs.Journal.{JournalEntry, Book}
-use Rattle.session_rooms.specs.ClerkEdits.{AreMadeBy}
+use Rattle.fabric_core.specs.declared.refusal.Refusal.{Refusal}
+use Rattle.fabric_core.specs.declared.refusal.Refusal.TheVariants.{NoMemory}
+use Rattle.fabric_core.specs.Refusals.{IsRefusal}
+use Rattle.session_rooms.specs.ClerkEdits.{AreMadeBy, IsStoppedIn}
 
 module _ {A : Type 0} where
   -- none
@@ -37,3 +40,20 @@ module _ {A : Type 0} where
     opening = opening ∙ made.opening;
     city = city ∙ made.city;
   }
+
+-- what stops them: one that is refused
+pub stopped : {A : Type 0} (clerk : ℕ) (edits : List (ℕ × Edit A)) (i : ℕ) (said : ℕ × Edit A) (before mid after : Book A)
+    (refusal : Refusal) → edits ≡ take i edits ++ said ∷ drop (suc i) edits → AreMadeBy clerk (take i edits) before mid
+    → after ≡ mid → IsRefusal mid.now mid.journal said.1 refusal ⊎ (refusal ≡ NoMemory)
+    → IsStoppedIn clerk edits before after said.0 refusal ⊎ (refusal ≡ NoMemory)
+stopped clerk edits i said before mid after refusal is made same (inl h) =
+    inl (subst (λ book. IsStoppedIn clerk edits before book said.0 refusal) (sym same) (record {
+      made = take i edits;
+      stopped = said;
+      rest = drop (suc i) edits;
+      are_all = is;
+      is_line = refl;
+      are_made = made;
+      is_refusal = h;
+    }))
+stopped clerk edits i said before mid after refusal is made same (inr h) = inr h

@@ -13,9 +13,9 @@ module _ {A : Type 0} where
   pub recorded : (before after : WriterState) (draft : DraftState) (stamp : Stamp) (edit : Edit A) (entry : JournalEntry A)
       → IsDraftOf draft stamp edit → edit ≡ entry.edit → draft.before ≡ before.seal → stamp.number ≡ entry.number
       → stamp.clerk ≡ entry.clerk → after.bytes ≡ with_more draft.text before.bytes → draft.number ≡ before.records + 1
-      → after.records ≡ draft.number → after.seal ≡ draft.seal → after.layer ≡ before.layer → after.is_broken ≡ before.is_broken
-      → IsRecorded before after entry
-  recorded before after draft stamp edit entry is same follows number clerk bytes next records seal layer whole =
+      → after.records ≡ draft.number → after.seal ≡ draft.seal → after.layer ≡ before.layer → after.file ≡ before.file
+      → after.is_broken ≡ before.is_broken → IsRecorded before after entry
+  recorded before after draft stamp edit entry is same follows number clerk bytes next records seal layer file whole =
       let of_entry : IsDraftOf draft stamp entry.edit = subst (λ e. IsDraftOf draft stamp e) same is in
       record {
         stamp = stamp;
@@ -28,6 +28,7 @@ module _ {A : Type 0} where
           records = records ∙ of_entry.number;
           seal = seal ∙ subst (λ s. draft.seal ≡ record_seal s stamp entry.edit) follows of_entry.seal;
           layer = layer;
+          file = file;
           whole = whole;
         };
       }

@@ -1,23 +1,25 @@
 -- The register that a session begins with.
 use Rattle.std.proofs.Common.{◌≡◌, inl, inr, refl, sym, ap, ◌∙◌, subst, ℕ, ◌+◌, ◌-◌, ◌<◌, List, [], ◌∷◌, ◌++◌, length, map, arith}
-use Rattle.std.proofs.Common.{Option, None, Some, IfSome, Result, Ok, Err, IsErrOf}
-use Rattle.std.proofs.lemmas.List.{length-append}
+use Rattle.std.proofs.Common.{Result, Ok, Err, IsErrOf, Bool, true, false, take, codes, append-nil}
+use Rattle.std.proofs.lemmas.List.{length-append, take_all}
+use Rattle.std.proofs.Math.Seq.{take-append_seam}
 use Rattle.geo_exact.specs.declared.coord.Unit.{Unit as LengthUnit}
 use Rattle.journal_records.specs.declared.seal.Seal.{Seal}
 use Rattle.journal_records.specs.declared.record.Record.{Record}
-use Rattle.journal_records.specs.Journals.{header_line, records_text, seal_text}
-use Rattle.journal_writers.specs.Writers.{IsFound}
+use Rattle.journal_records.specs.Journals.{header_line, records_text, seal_text, ended, IsReadWhole, IsHeaderFault}
+use Rattle.journal_writers.specs.Writers.{IsKept}
 use Rattle.fabric_core.specs.declared.refusal.Refusal.{Refusal}
 use Rattle.fabric_core.specs.Rows.{Tiles}
 use Rattle.fabric_core.specs.Journal.{JournalEntry, Book, State, opening_state, replay}
 use Rattle.journal_replays.specs.declared.journal_edits.Replayed.{Replayed}
 use Rattle.journal_replays.specs.declared.journal_edits.ReplayFault.{ReplayFault}
-use Rattle.journal_replays.specs.declared.journal_edits.ReplayFault.TheVariants.{Refused}
-use Rattle.journal_replays.specs.Replays.{layer_text, IsReplayed, IsRefusedAt}
+use Rattle.journal_replays.specs.declared.journal_edits.ReplayFault.TheVariants.{Journal as Unread, Refused}
+use Rattle.journal_replays.specs.Replays.{layer_text, IsReplayed, IsReplayFault, IsRefusedAt}
 use Rattle.city_layers.specs.TilingFiles.{Files, AreTiles}
 use Rattle.session_rooms.specs.declared.begin.BeginFault.{BeginFault}
 use Rattle.session_rooms.specs.declared.begin.BeginFault.TheVariants.{Load, Journal}
 use Rattle.session_rooms.specs.Starts.{digest_of, IsMarked, IsBehind, IsStoppedOver, IsStoppedBehind, IsTextOf}
+use Rattle.session_rooms.specs.Starts.{digest_over, IsFaultOver}
 
 module _ {A : Type 0} where
   -- the digest of a fresh register
@@ -46,7 +48,7 @@ module _ {A : Type 0} where
   -- behind a journal that was replayed
   pub behind_replayed : (layer : Seal) (text : List ℕ) (fresh book : Book A) (replayed : Replayed) → fresh.journal ≡ []
       → fresh.now ≡ fresh.opening → layer.digits ≡ seal_text (layer_text fresh.city fresh.now.rows)
-      → IsReplayed layer.digits text fresh book replayed.records replayed.seal.digits replayed.torn
+      → IsReplayed layer.digits text fresh book replayed.records replayed.seal.digits replayed.torn replayed.lacks_end
       → replay book.opening book.journal ≡ book.now → IsBehind text book replayed layer
   behind_replayed layer text fresh book replayed none now seal is leads =
       let made = is.are_made in
@@ -110,51 +112,80 @@ stopped_behind {T = T} A city parcels unit text fault tiles number refusal are s
       is_stopped = stopped (ap failed (ap (journal_fault fault) is));
     }
 
--- one where there is a first item
+-- one where there are two items
 abbrev how_many : List ℕ → ℕ
 how_many [] = 0
-how_many (x ∷ xs) = 1
+how_many (x ∷ []) = 0
+how_many (x ∷ y ∷ xs) = 1
 
 -- a journal's text is not empty
-not_empty : (layer lines rest : List ℕ) → ¬ ([] ≡ header_line layer ++ lines ++ rest)
-not_empty layer lines rest is = absurd (omega (arith, ap how_many is))
+not_empty : (layer lines rest : List ℕ) (lacks : Bool) → ¬ (ended lacks [] ≡ header_line layer ++ lines ++ rest)
+not_empty layer lines rest false is = absurd (omega (arith, ap how_many is))
+not_empty layer lines rest true is = absurd (omega (arith, ap how_many is))
 
 module _ {A : Type 0} where
   -- an empty text has no records
-  none_of : (layer text : List ℕ) (records : List (Record A)) (seal rest : List ℕ) → IsTextOf layer text records seal rest → text ≡ []
-      → length records ≡ 0
-  none_of layer text records seal rest (inl journal) empty =
-      absurd (not_empty layer (records_text layer records) rest (sym empty ∙ journal.is_read.is_text))
-  none_of layer text records seal rest (inr h) empty = ap length h.1
+  none_of : (layer text : List ℕ) (records : List (Record A)) (seal rest : List ℕ) (lacks : Bool)
+      → IsTextOf layer text records seal rest lacks → text ≡ [] → length records ≡ 0
+  none_of layer text records seal rest lacks (inl journal) empty =
+      absurd (not_empty layer (records_text layer records) rest lacks (sym (ap (ended lacks) empty) ∙ journal.is_read.is_read.is_text))
+  none_of layer text records seal rest lacks (inr h) empty = ap length h.1
 
   pub none_marked : (text : List ℕ) (replayed : Replayed) (layer : Seal) → IsMarked A text replayed layer → text ≡ []
       → replayed.records ≡ 0
   none_marked text replayed layer marked empty =
-      marked.are_so_many ∙ none_of layer.digits text marked.records replayed.seal.digits marked.rest marked.is_text empty
+      marked.are_so_many ∙ none_of layer.digits text marked.records replayed.seal.digits marked.rest replayed.lacks_end
+      marked.is_text empty
 
-  -- what was read of a text is found in it
-  found_of : (layer text : List ℕ) (records : List (Record A)) (seal rest : List ℕ) (count whole torn : ℕ)
-      → IsTextOf layer text records seal rest → count ≡ length records → torn ≡ length rest → 0 < length text
-      → whole ≡ length text - torn → IsFound A layer text count seal whole torn
-  found_of layer text records seal rest count whole torn (inl journal) so_many is_torn some is =
-      let sum : length text ≡ length (header_line layer ++ records_text layer records) + length rest =
-      ap length journal.is_read.is_text ∙ length-append (header_line layer ++ records_text layer records) rest in
+  -- what is whole of a journal's text
+  kept_of : (layer text : List ℕ) (records : List (Record A)) (seal rest : List ℕ) (lacks : Bool) (count whole torn : ℕ)
+      → IsTextOf layer text records seal rest lacks → count ≡ length records → torn ≡ length rest → 0 < length text
+      → whole ≡ length text - torn → IsKept A layer (ended lacks (take whole text)) count seal
+  kept_of layer text records seal rest true count whole torn (inl journal) so_many is_torn some is =
+      let none : rest ≡ [] = journal.is_ended refl in
+      let all : take whole text ≡ text = take_all whole text (omega (arith, is, is_torn, ap length none)) in
       record {
         written = records;
-        rest = rest;
-        are_lines = journal.is_read;
+        are_lines = subst (λ t. IsReadWhole layer (ended true t) records seal []) (sym all)
+            (subst (λ r. IsReadWhole layer (text ++ codes "\n") records seal r) none journal.is_read);
         count = sym so_many;
-        is_torn = is_torn;
-        is_whole = omega (arith, is, is_torn, sum);
       }
-  found_of layer text records seal rest count whole torn (inr h) so_many is_torn some is = absurd (omega (arith, some, ap length h.0))
+  kept_of layer text records seal rest false count whole torn (inl journal) so_many is_torn some is =
+      let front = header_line layer ++ records_text layer records in
+      let read = journal.is_read.is_read in
+      let sum : length text ≡ length front + length rest = ap length read.is_text ∙ length-append front rest in
+      let place : whole ≡ length front = omega (arith, is, is_torn, sum) in
+      let cut : take whole text ≡ front =
+      ap (λ n. take n text) place ∙ ap (λ b. take (length front) b) read.is_text ∙ take-append_seam front rest in
+      record {
+        written = records;
+        are_lines = record {
+          is_read = record {
+            is_text = cut ∙ sym (append-nil front);
+            is_seal = read.is_seal;
+            are_numbered = read.are_numbered;
+          };
+          in_lines = journal.is_read.in_lines;
+        };
+        count = sym so_many;
+      }
+  kept_of layer text records seal rest lacks count whole torn (inr h) so_many is_torn some is =
+      absurd (omega (arith, some, ap length h.0))
 
-  -- and in a file that has the text
-  pub found_file : (bytes : Option (List ℕ)) (text : List ℕ) (replayed : Replayed) (layer : Seal) (whole : ℕ)
-      → IfSome bytes (λ b. b ≡ text) → IsMarked A text replayed layer → 0 < length text → whole ≡ length text - replayed.torn
-      → IfSome bytes (λ b. IsFound A layer.digits b replayed.records replayed.seal.digits whole replayed.torn)
-  found_file None text replayed layer whole same marked some is = tt
-  found_file (Some bytes) text replayed layer whole same marked some is =
-      subst (λ b. IsFound A layer.digits b replayed.records replayed.seal.digits whole replayed.torn) (sym same)
-      (found_of layer.digits text marked.records replayed.seal.digits marked.rest replayed.records whole replayed.torn marked.is_text
-      marked.are_so_many marked.is_torn some is)
+  -- and of the text that a register was begun with
+  pub kept_text : (text : List ℕ) (replayed : Replayed) (layer : Seal) (whole : ℕ) → IsMarked A text replayed layer
+      → 0 < length text → whole ≡ length text - replayed.torn
+      → IsKept A layer.digits (ended replayed.lacks_end (take whole text)) replayed.records replayed.seal.digits
+  kept_text text replayed layer whole marked some is =
+      kept_of layer.digits text marked.records replayed.seal.digits marked.rest replayed.lacks_end replayed.records whole replayed.torn
+      marked.is_text marked.are_so_many marked.is_torn some is
+
+-- what is told of a journal's first line, over the layer that a register was opened with
+pub fault_over : {A : Type 0} (tiles : Tiles) (text seal : List ℕ) (fresh : Book A) (fault : ReplayFault) → fresh.city ≡ tiles.city
+    → fresh.opening ≡ opening_state tiles.rows tiles.refined → fresh.now ≡ fresh.opening
+    → seal ≡ seal_text (layer_text fresh.city fresh.now.rows) → IsReplayFault seal text fault → IsFaultOver tiles text fault
+fault_over tiles text seal fresh (Refused number refusal) city opening now is told = tt
+fault_over tiles text seal fresh (Unread fault) city opening now is told =
+    let same : seal ≡ digest_over tiles = is ∙ ap (λ (s : State). seal_text (layer_text fresh.city s.rows)) (now ∙ opening)
+    ∙ ap (λ c. seal_text (layer_text c (opening_state tiles.rows tiles.refined).rows)) city in
+    subst (λ s. IsHeaderFault s text fault) same told

@@ -4,7 +4,7 @@ use Rattle.std.specs.Prelude.{◌≡◌, ⊤, ℕ, ◌≤◌, List, [], ◌∷�
 use Rattle.journal_records.specs.declared.record.Stamp.{Stamp}
 use Rattle.journal_writers.specs.Writers.{WriterState, HasOneMore}
 use Rattle.fabric_core.specs.Journal.{JournalEntry}
-use Rattle.journal_writers.specs.declared.synced.OnDisk.{OnDisk}
+use Rattle.journal_writers.specs.declared.synced.DiskHas.{DiskHas}
 
 -- a journal has one record more: that of this entry
 pub record IsRecorded {A : Type 0} (before after : WriterState) (entry : JournalEntry A) : Type 0 where
@@ -20,7 +20,7 @@ HasRecords before after (entry ∷ others) =
     (mid : WriterState) × IsRecorded before mid entry × HasRecords mid after others
 
 -- where there is a journal, the disk has at least so many records
-abbrev pub IsOnDisk : {J : Type 0} → Option J → Option OnDisk → ℕ → Type 0
+abbrev pub IsOnDisk : {J : Type 0} → Option J → Option DiskHas → ℕ → Type 0
 IsOnDisk None on_disk number = ⊤
 IsOnDisk (Some journal) None number = ⊥
 IsOnDisk (Some journal) (Some on_disk) number = number ≤ on_disk.records

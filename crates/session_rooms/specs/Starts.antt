@@ -1,15 +1,17 @@
 -- The register that a session begins with, from the bytes of its files (this product's own).
-use Rattle.std.specs.Prelude.{◌≡◌, ◌⊎◌, ⊤, ℕ, List, [], map, length, Option, None, Some}
+use Rattle.std.specs.Prelude.{◌≡◌, ◌⊎◌, ⊤, ℕ, Bool, List, [], map, length, Option, None, Some}
 use Rattle.std.specs.Option.{option_map}
 use Rattle.geo_exact.specs.declared.coord.Unit.{Unit as LengthUnit}
 use Rattle.geo_exact.specs.declared.corner.Corner.{Corner}
 use Rattle.journal_records.specs.declared.record.Record.{Record}
 use Rattle.journal_records.specs.declared.seal.Seal.{Seal}
-use Rattle.journal_records.specs.Journals.{IsJournal, seal_text}
+use Rattle.journal_records.specs.Journals.{IsJournal, IsHeaderFault, seal_text}
 use Rattle.fabric_core.specs.declared.refusal.Refusal.{Refusal}
 use Rattle.fabric_core.specs.Rows.{Tiles}
 use Rattle.fabric_core.specs.Journal.{Book, opening_state, replay}
 use Rattle.journal_replays.specs.declared.journal_edits.Replayed.{Replayed}
+use Rattle.journal_replays.specs.declared.journal_edits.ReplayFault.{ReplayFault}
+use Rattle.journal_replays.specs.declared.journal_edits.ReplayFault.TheVariants.{Journal as Unread, Refused}
 use Rattle.journal_replays.specs.Replays.{layer_text, IsRefusedAt}
 use Rattle.city_layers.specs.declared.fault.ToolFault.{ToolFault}
 use Rattle.city_layers.specs.declared.fault.ToolFault.TheVariants.{NoMemory}
@@ -58,8 +60,8 @@ module _ {A : Type 0} where
   digest_of book = seal_text (layer_text book.city book.opening.rows)
 
   -- the text is a journal of the layer with this digest, with these records, or empty, with none
-  abbrev pub IsTextOf : List ℕ → List ℕ → List (Record A) → List ℕ → List ℕ → Type 0
-  IsTextOf layer text records seal rest = IsJournal layer text records seal rest
+  abbrev pub IsTextOf : List ℕ → List ℕ → List (Record A) → List ℕ → List ℕ → Bool → Type 0
+  IsTextOf layer text records seal rest lacks = IsJournal layer text records seal rest lacks
       ⊎ ((text ≡ []) × (records ≡ []) × (seal ≡ layer) × (rest ≡ []))
 
 -- the text is a journal of the layer with this digest, or empty; so many records there are, with this last digest, and
@@ -67,7 +69,7 @@ module _ {A : Type 0} where
 pub record IsMarked (A : Type 0) (text : List ℕ) (replayed : Replayed) (layer : Seal) : Type 0 where
   pub records : List (Record A)
   pub rest : List ℕ
-  pub is_text : IsTextOf layer.digits text records replayed.seal.digits rest
+  pub is_text : IsTextOf layer.digits text records replayed.seal.digits rest replayed.lacks_end
   pub are_so_many : replayed.records ≡ length records
   pub is_torn : replayed.torn ≡ length rest
 
@@ -100,3 +102,23 @@ pub record IsStoppedBehind (A : Type 0) (city parcels : Files) (unit : LengthUni
   pub tiles : Tiles
   pub are_tiles : AreTiles city parcels unit tiles
   pub is_stopped : IsStoppedOver A tiles text number refusal
+
+-- the digest of a layer before its first edit
+abbrev pub digest_over : Tiles → List ℕ
+digest_over tiles = seal_text (layer_text tiles.city (opening_state tiles.rows tiles.refined).rows)
+
+-- what is told of the first line of a journal that is not of this layer
+abbrev pub IsFaultOver : Tiles → List ℕ → ReplayFault → Type 0
+IsFaultOver tiles text (Unread fault) = IsHeaderFault (digest_over tiles) text fault
+IsFaultOver tiles text (Refused number refusal) = ⊤
+
+-- the same over the layer of these files
+pub record IsFaultBehind (city parcels : Files) (unit : LengthUnit) (text : List ℕ) (fault : ReplayFault) : Type 0 where
+  pub tiles : Tiles
+  pub are_tiles : AreTiles city parcels unit tiles
+  pub is_fault : IsFaultOver tiles text fault
+
+-- where the journal is at fault
+abbrev pub IfJournal : BeginFault → (ReplayFault → Type 0) → Type 0
+IfJournal (Load fault) is = ⊤
+IfJournal (Journal fault) is = is fault

@@ -9,6 +9,7 @@ ghost use Rattle.journal_replays.specs.declared.journal_edits.ReplayFault.TheVar
 ghost use Rattle.session_lines.specs.Answers.{ready_line};
 ghost use Rattle.session_rooms.specs.Starts.{zones_of, AreZonesOf, IsLoadFaultOf, IsOpenedWith, IsBehind};
 ghost use Rattle.session_rooms.specs.Starts.{IsStoppedBehind, IsOpenedOver, IsStoppedOver, IsMarked};
+ghost use Rattle.session_rooms.specs.Starts.{IfJournal, IsFaultBehind, IsFaultOver};
 
 use city_layers::{Layers, Source, ToolFault, load_layers_by, load_tiles_by};
 use fabric_core::{Fabric, Layer};
@@ -75,6 +76,9 @@ pub fn begin_register<'h, R: Threads + Sync, H: Allocator + Send + Sync, A: Allo
     // The zones are of the same city, where there are some.
     ensures zones { IfOk result (λ begun. AreZonesOf (zones_of sources.now) unit begun.fabric.city begun.zones) }
     ensures load { IfErr result (λ fault. IsLoadFaultOf sources.now unit fault) }
+    // The journal is told as none, or as another layer's, only for what its first line says.
+    ensures journal { IfErr result (λ fault. IfJournal fault
+        (IsFaultBehind (files_of sources.now.city) (files_of sources.now.parcels) unit text.now)) }
     // An edit that is refused is told by its record: the first that is, behind exactly the edits before it.
     ensures refused { (number : ℕ) (refusal : RefusalValue)
         → IsErrOf result (BeginFault.Journal (Refused number refusal))
@@ -106,6 +110,7 @@ fn open_behind<'h, H: Allocator>(
     ensures behind { IfOk result (λ opened. IsBehind text.now opened.0 opened.2 opened.1) }
     ensures refused { (number : ℕ) (refusal : RefusalValue) → IsErrOf result (ReplayFault.Refused number refusal)
         → IsStoppedOver (Bor H) layer.entry text.now number refusal }
+    ensures fault { IfErr result (IsFaultOver layer.entry text.now) }
 {
     let Ok(mut fabric) = Fabric::open(layer) else {
         return Err(ReplayFault::Journal(JournalFault::NoMemory));
@@ -118,6 +123,7 @@ fn open_behind<'h, H: Allocator>(
             records: 0,
             seal,
             torn: 0,
+            lacks_end: false,
         };
         return Ok((fabric, seal, replayed));
     }
@@ -163,12 +169,12 @@ fn load<'h, R: Threads + Sync, H: Allocator + Send + Sync, A: Allocator + Sync>(
     }
 }
 
-/// Who writes the journal of a register from its start on, in a file that has the text which the register was begun
-/// with: an empty one gets the header, and what is torn is cut off.
+/// Who writes the journal of a register from its start on, in an empty file: it gets what is whole of the text which
+/// the register was begun with, or the header where that is empty.
 ///
 /// # Errors
 ///
-/// [`FileFailed`].
+/// [`FileFailed`]. A beginning of the text may be written then.
 pub fn begin_writer<'h, H: Allocator, F: JournalFile>(
     heap: &'h H,
     file: F,
@@ -176,8 +182,9 @@ pub fn begin_writer<'h, H: Allocator, F: JournalFile>(
     layer: &Seal,
     replayed: &Replayed,
 ) -> Result<JournalWriter<F, &'h H>, FileFailed>
-    requires text { IfSome (F.bytes file) (λ bytes. bytes ≡ text.now) }
+    requires empty { IfSome (F.bytes file) (λ bytes. bytes ≡ []) }
     requires marked { IsMarked (Bor H) text.now replayed.now layer.now }
+    ensures file { IfOk result (λ writer. writer.file ≡ F.which file) }
     ensures records { IfOk result (λ writer. writer.records ≡ replayed.now.records) }
     ensures layer { IfOk result (λ writer. writer.layer ≡ layer.now.digits) }
     ensures whole { IfOk result (λ writer. writer.is_broken ≡ false) }
@@ -189,9 +196,10 @@ pub fn begin_writer<'h, H: Allocator, F: JournalFile>(
         records,
         seal,
         torn,
+        lacks_end,
     } = *replayed;
     let whole = text.len().saturating_sub(torn);
-    JournalWriter::go_on(file, layer, records, seal, whole, torn)
+    JournalWriter::go_on(file, layer, records, seal, &text[..whole], lacks_end)
 }
 
 /// What the operator is told once all is ready.

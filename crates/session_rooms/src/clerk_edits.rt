@@ -1,7 +1,8 @@
 //! The edits of a clerk's file, with which a new journal begins.
 
-ghost use Rattle.std.specs.Prelude.{◌≡◌, IfErr, OnOk};
-ghost use Rattle.session_rooms.specs.ClerkEdits.{AreMadeOf, AreMadeBy, IsEditsFault};
+ghost use Rattle.std.specs.Prelude.{◌≡◌, ◌⊎◌, IfErr, OnOk};
+ghost use Rattle.fabric_core.specs.declared.refusal.Refusal.TheVariants.{NoMemory as NoRoom};
+ghost use Rattle.session_rooms.specs.ClerkEdits.{AreMadeOf, AreMadeBy, IsStoppedIn, IsEditsFault};
 ghost use Rattle.session_rooms.specs.Kept.{HasRecords};
 
 use fabric_core::{Entry, Fabric, Refusal};
@@ -36,7 +37,7 @@ pub fn make_edits<'h, H: Allocator>(
     text: &[u8],
 ) -> Result<(), EditsFault>
     ensures made { OnOk result (AreMadeOf text.now fabric.old fabric.new) }
-    ensures fault { IfErr result (IsEditsFault text.now) }
+    ensures fault { IfErr result (IsEditsFault text.now fabric.old fabric.new) }
 {
     let edits = match read_clerk(heap, text) {
         Ok(edits) => edits,
@@ -55,7 +56,9 @@ fn make_all<'h, H: Allocator>(
     fabric: &mut Fabric<'h, H>,
     edits: &[(u64, Edit<&'h H>)],
 ) -> Result<(), (u64, Refusal)>
-    ensures { OnOk result (AreMadeBy EDITS_CLERK edits.now fabric.old fabric.new) }
+    ensures ok { OnOk result (AreMadeBy EDITS_CLERK edits.now fabric.old fabric.new) }
+    ensures refused { IfErr result (λ refused.
+        IsStoppedIn EDITS_CLERK edits.now fabric.old fabric.new refused.0 refused.1 ⊎ (refused.1 ≡ NoRoom)) }
 {
     for said in edits {
         if let Err(refusal) = fabric.edit(EDITS_CLERK, &said.1) {

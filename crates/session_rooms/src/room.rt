@@ -15,7 +15,7 @@ use crate::journal::{Clocked, Journal};
 use desk_lock::{Card, Naming, Notice, Office};
 use fabric_core::{Entry, Refusal, Sheet};
 use journal_records::Stamp;
-use journal_writers::{JournalFile, JournalWriter, OnDisk};
+use journal_writers::{DiskHas, JournalFile, JournalWriter};
 use ring_edits::Edit;
 use session_lines::SessionFault;
 use std::alloc::Allocator;
@@ -55,7 +55,7 @@ pub struct Made<'h, H: Allocator, J: Naming<H>> {
     /// The entry that the edit is in the office's journal.
     pub entry: Entry<&'h H>,
     /// That the disk has its record, where there is a journal.
-    pub on_disk: Option<OnDisk>,
+    pub on_disk: Option<DiskHas>,
     /// That it is shown, unless memory was refused for that: a later edit shows it, too.
     pub notice: Option<Notice<'h, H, J>>,
 }
@@ -66,7 +66,7 @@ pub struct Drawn<'h, H: Allocator> {
     /// The parcels, with the entries that led there.
     pub sheet: Sheet<'h, H>,
     /// That the disk has the records of these entries, where there is a journal.
-    pub on_disk: Option<OnDisk>,
+    pub on_disk: Option<DiskHas>,
 }
 
 impl<'r, 'h, H: Allocator, J: Naming<H>, R: Wait, F: JournalFile, K: Clocked> Room<
@@ -97,9 +97,9 @@ impl<'r, 'h, H: Allocator, J: Naming<H>, R: Wait, F: JournalFile, K: Clocked> Ro
         }
     }
 
-    /// What is left once all desks have ended: the office, and how many records the disk has of its journal, where
-    /// there is one.
-    pub fn end(self) -> (Office<'h, H, J, &'r R>, Option<u64>)
+    /// What is left once all desks have ended: the office, and which records the disk has of its journal, where there
+    /// is one.
+    pub fn end(self) -> (Office<'h, H, J, &'r R>, Option<DiskHas>)
         ensures office { result.0 ≡ self.entry.office }
         ensures kept { IsSome result.1 ↔ IsSome self.entry.journal }
     {
@@ -110,7 +110,7 @@ impl<'r, 'h, H: Allocator, J: Naming<H>, R: Wait, F: JournalFile, K: Clocked> Ro
             ..
         } = self;
         let kept = match &journal {
-            Some(journal) => Some(journal.synced(rt)),
+            Some(journal) => Some(journal.synced(rt).told()),
             None => None,
         };
         (office, kept)
@@ -205,7 +205,7 @@ impl<'r, 'h, H: Allocator, J: Naming<H>, R: Wait, F: JournalFile, K: Clocked> Ro
         card: &mut Card<'h, H, J>,
         who: &[u8],
         edit: &Edit<&'h H>,
-    ) -> Result<(Entry<&'h H>, OnDisk), EditFault>
+    ) -> Result<(Entry<&'h H>, DiskHas), EditFault>
         ensures edit { IfOk result (λ made. made.0.edit ≡ edit.now) }
         ensures clerk { IfOk result (λ made. made.0.clerk ≡ card.old.clerk) }
         ensures made { IfOk result (λ made. card.new ≡ with_made card.old made.0 card.new.met) }
@@ -230,10 +230,10 @@ impl<'r, 'h, H: Allocator, J: Naming<H>, R: Wait, F: JournalFile, K: Clocked> Ro
             Ok(entry) => entry,
             Err(fault) => return Err(fault),
         };
-        journal.wrote(entry.number());
+        journal.wrote(self.rt, writer.written());
         drop(writer);
         match journal.sync_to(self.rt, entry.number()) {
-            Some(on_disk) => Ok((entry, on_disk)),
+            Some(on_disk) => Ok((entry, on_disk.told())),
             None => Err(EditFault::Journal),
         }
     }
@@ -316,7 +316,7 @@ impl<'r, 'h, H: Allocator, J: Naming<H>, R: Wait, F: JournalFile, K: Clocked> Ro
             return Ok(None);
         };
         match journal.sync_all(self.rt) {
-            Some(number) => Ok(Some(number)),
+            Some(on_disk) => Ok(Some(on_disk.records())),
             None => Err(SessionFault::JournalFailed),
         }
     }
@@ -348,7 +348,7 @@ impl<'r, 'h, H: Allocator, J: Naming<H>, R: Wait, F: JournalFile, K: Clocked> Ro
         match journal.sync_to(self.rt, sheet.entries()) {
             Some(on_disk) => Ok(Drawn {
                 sheet,
-                on_disk: Some(on_disk),
+                on_disk: Some(on_disk.told()),
             }),
             None => Err(SessionFault::JournalFailed),
         }

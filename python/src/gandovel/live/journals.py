@@ -27,8 +27,13 @@ _NUMBER = rb"(?:0|[1-9][0-9]{0,18})"
 _STAMP = re.compile(
     rb"# (" + _NUMBER + rb") (" + _NUMBER + rb") (\d{4}-\d\d-\d\dT\d\d:\d\d:\d\dZ) (?:(.+) )?([0-9a-f]{64})", re.DOTALL
 )
-_TORN_STAMP = re.compile(rb"# [^ ]+ [0-9]{1,19} [^ ]* (?:.* )?.{64}", re.DOTALL)
-"""The first line of a record that a program takes for one: behind it the second may be missing."""
+_SEALED = re.compile(rb"[^\0\n]*[0-9a-f]{64}")
+"""The first line of a record, which ends in a digest."""
+_EDIT_BEGUN = re.compile(rb"[0-9a-z -]*")
+MOST_STAMP = 320
+"""Bytes of a record's first line."""
+BLOCK = 512
+"""Bytes that a disk writes or does not write."""
 _CORNER = rb"(?: (?:0|-?[1-9][0-9]{0,11}) (?:0|-?[1-9][0-9]{0,11}))"
 _EDIT = re.compile(
     b"split ID(?:CORNER)+|merge ID ID|move ID ID(?:CORNER)+|insert(?:CORNER){3}|straightenCORNER".replace(
@@ -105,12 +110,15 @@ class Chain:
         self.count = 0
         self.rest = b""
         """Bytes behind the last whole record."""
+        self.longest = self._fed = 0
+        """How many bytes the longest record has, and all that were fed."""
 
     def feed(self, part: bytes) -> List[JournalRecord]:
         """Takes in the bytes that come next: the records that are whole with them. Raises `JournalRefused`.
 
         A record is whole with its second line feed. Nothing may be fed behind a refusal.
         """
+        self._fed += len(part)
         lines = (self.rest + part).split(b"\n")
         at, found = 0, []
         if not self.layer and len(lines) > 1:
@@ -125,17 +133,46 @@ class Chain:
         self.rest = b"\n".join(lines[at:])
         return found
 
+    def last(self) -> List[JournalRecord]:
+        """The record at the end that lacks its line feed alone: its digest proves it, so it counts. None else."""
+        stamp, line_feed, edit = self.rest.partition(b"\n")
+        if not line_feed or b"\n" in edit:
+            return []
+        try:
+            record = self._record(stamp, edit)
+        except JournalRefused:
+            return []
+        self.rest = b""
+        return [record]
+
     def end(self) -> int:
-        """How many bytes of a further record's beginning stand at the end. Raises `JournalRefused` where they are
-        none."""
+        """How many bytes stand at the end that a cut may have left: of one record, or of a group of which blocks were
+        not written. Raises `JournalRefused` where they are others."""
         if not self.layer:
             raise JournalRefused("no journal", "")
-        stamp, line_feed, _ = self.rest.partition(b"\n")
-        start = b"# %d " % (self.count + 1)
-        is_beginning = stamp.startswith(start) or (start.startswith(stamp) and not line_feed)
-        if not is_beginning or (line_feed and not _TORN_STAMP.fullmatch(stamp)):
+        if self.rest and not self._is_begun() and not self._is_lost():
             raise self._changed()
         return len(self.rest)
+
+    def _is_begun(self) -> bool:
+        """Whether the rest is a beginning of the next record."""
+        first, line_feed, second = self.rest.partition(b"\n")
+        start = b"# %d " % (self.count + 1)
+        if len(first) > MOST_STAMP or b"\0" in first:
+            return False
+        if not line_feed:
+            return first.startswith(start) or start.startswith(first)
+        return first.startswith(start) and bool(_SEALED.fullmatch(first) and _EDIT_BEGUN.fullmatch(second))
+
+    def _is_lost(self) -> bool:
+        """Whether a zero byte stands in the rest's first two lines, behind it only zeros in its block, and the rest is
+        no longer than a group of records may be."""
+        zero = self.rest.find(b"\0")
+        if zero < 0 or self.rest.count(b"\n", 0, zero) > 1 or len(self.rest) > 9 * (self.longest or 128):
+            return False
+        first = -((self._fed - len(self.rest)) % BLOCK)
+        blocks = (self.rest[max(at, 0) : at + BLOCK] for at in range(first, len(self.rest), BLOCK))
+        return not any(b"\0" in block.rstrip(b"\0") for block in blocks)
 
     def _record(self, stamp: bytes, edit: bytes) -> JournalRecord:
         """The record of two lines behind the one before."""
@@ -151,6 +188,7 @@ class Chain:
         if int(found[2]) > MOST_CLERK or len(who.encode()) > MOST_WORD or any(map(_is_control, who)):
             raise self._changed()
         self.count, self.digest = self.count + 1, digest
+        self.longest = max(self.longest, len(stamp) + len(edit) + 2)
         return JournalRecord(self.count, int(found[2]), time, who, edit.decode("ascii"))
 
     def _changed(self) -> JournalRefused:
@@ -160,7 +198,7 @@ class Chain:
 def read_journal(path: PathLike) -> Journal:
     """Reads the journal at a path, and checks that each record stands as it was written.
 
-    A beginning of a record at the end is counted as `torn`; a running session may be writing it. Raises
+    What a cut may leave at the end is counted as `torn`; a running session may be writing it. Raises
     `JournalRefused`: S1 where the file can't be read, "no journal", or "changed" with the record's first line.
     """
     try:
@@ -174,7 +212,7 @@ def read_journal(path: PathLike) -> Journal:
 def journal_of(text: bytes) -> Journal:
     """What the text of a journal says. Raises as `read_journal`."""
     chain = Chain()
-    records = chain.feed(text)
+    records = chain.feed(text) + chain.last()
     return Journal(chain.layer, tuple(records), chain.end(), chain.digest)
 
 

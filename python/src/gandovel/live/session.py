@@ -143,7 +143,7 @@ class Session(Calls):
 
     @property
     def notes(self) -> List[str]:
-        """The lines that the program wrote to standard error, as of a torn last line that was cut off the journal."""
+        """The lines that the program wrote to standard error, as of torn bytes that were set aside from the journal."""
         if self._notes is not None:
             return self._notes
         return os.pread(self._errors.fileno(), MOST_NOTES, 0).decode("utf-8", "backslashreplace").splitlines()

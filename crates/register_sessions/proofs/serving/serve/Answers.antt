@@ -9,6 +9,7 @@ run_beside-done-requires-sync-C g c κs within =
     let rt = c.type_bounds.sync-R in
     let disk = c.type_bounds.sync-P in
     let synchroniser = c.type_bounds.sync-K in
+    let its_own = c.type_bounds.send-K in
     search (shared_sync, sendable) depth 20
 
 pub run_beside-done-requires-send-T : goal.run_beside-done-requires-send-T

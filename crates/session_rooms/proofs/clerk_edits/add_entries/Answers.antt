@@ -15,4 +15,4 @@ loop-entry-preserved g c =
     (recorded c.loop-entry.writer c.add.new.self c.in-Ok.draft _ _ c.entry-item.result c.in-Ok.ensures.drafted c.edit.ensures
     c.in-Ok.ensures.before c.number.ensures c.clerk.ensures c.in_ok-add.ensures.bytes c.in_ok-add.ensures.next
     c.in_ok-add.ensures.records c.in_ok-add.ensures.seal c.in_ok-add.ensures.layer
-    (c.in_ok-add.ensures.whole.1 ∙ sym c.in_ok-add.ensures.whole.0)))
+    c.in_ok-add.ensures.file (c.in_ok-add.ensures.whole.1 ∙ sym c.in_ok-add.ensures.whole.0)))

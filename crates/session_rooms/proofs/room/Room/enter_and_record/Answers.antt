@@ -16,4 +16,4 @@ returns-clause-recorded g c =
     (sym c.in-Ok-enter.ensures.edit) c.in-Ok.ensures.before same (c.clerk.ensures ∙ sym c.in-Ok-enter.ensures.clerk)
     (of_value c.add.result _ is_ok added.bytes) (of_value c.add.result _ is_ok added.next)
     (of_value c.add.result _ is_ok added.records) (of_value c.add.result _ is_ok added.seal)
-    (of_value c.add.result _ is_ok added.layer) (whole.1 ∙ sym whole.0)
+    (of_value c.add.result _ is_ok added.layer) added.file (whole.1 ∙ sym whole.0)
