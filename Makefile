@@ -8,6 +8,7 @@ help:
 	@echo 'make test     the gate: every proof, mutant, test and run (.ci/run)'
 	@echo 'make mutants  tries every mutant of both tiers; goes on where it was stopped; hours from nothing'
 	@echo 'make release  what is handed out, in dist/: static program, .tar.gz, wheel, .deb, QGIS plugin, of a commit that passed the gate here'
+	@echo 'make release-unproved  the same packages and a demonstration, without any proof, in minutes, in dist-unproved/'
 	@echo 'make reference  compares 100,000 answers of the built program with a second reading of the definitions (reference/)'
 	@echo 'make bench    measures speed and memory (benches/all.sh)'
 
@@ -32,10 +33,13 @@ mutants:
 release:
 	@scripts/release
 
+release-unproved:
+	@scripts/release --unproved
+
 reference:
 	@python3 -m reference --answers 100000
 
 bench:
 	@benches/all.sh
 
-.PHONY: help build demo quick test mutants release reference bench
+.PHONY: help build demo quick test mutants release release-unproved reference bench

@@ -37,6 +37,11 @@ def plain(root: Path, program: bytes, proof: str, bill: bytes) -> Files:
     }
 
 
+def proof_name(parts: Files) -> str:
+    """What the file is called that says what was proved: a text that begins so says that nothing was."""
+    return "UNPROVED.txt" if parts["proof"][0].startswith(b"UNPROVED") else "PROOF.txt"
+
+
 def documents(root: Path, to: str) -> Files:
     """The documents, with the pages beside them that they lead to."""
     pages = {
@@ -51,7 +56,7 @@ def tarball(root: Path, parts: Files, relink: Files, name: str, seconds: int) ->
         "bin/parcel_tool": parts["program"],
         "man/man1/parcel_tool.1": parts["man"],
         **{f"completion/{name}": parts[shell] for shell, name in COMPLETIONS.items()},
-        "PROOF.txt": parts["proof"],
+        proof_name(parts): parts["proof"],
         "parcel_tool.spdx.json": parts["bill"],
         "LICENCE-STATE.txt": parts["licence"],
         **documents(root, "."),
@@ -87,7 +92,7 @@ def deb(root: Path, parts: Files, version: str, maintainer: str, seconds: int) -
         f"{share}/fish/vendor_completions.d/parcel_tool.fish": parts["fish"],
         f"{share}/lintian/overrides/parcel-tool": (OVERRIDES.encode(), False),
         f"{doc}/copyright": parts["licence"],
-        f"{doc}/PROOF.txt": parts["proof"],
+        f"{doc}/{proof_name(parts)}": parts["proof"],
         f"{doc}/parcel_tool.spdx.json": parts["bill"],
         f"{doc}/changelog.gz": (packed(debian_changelog(version, maintainer, seconds)), False),
         f"{doc}/NEWS.gz": (packed((root / "CHANGELOG.md").read_bytes()), False),
