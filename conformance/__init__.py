@@ -1,0 +1,1 @@
+"""Layers whose answers are known exactly, for any program."""
