@@ -4,8 +4,8 @@
     python3 -m conformance.run [--within PARTS] -- COMMAND..     at the top
 
 COMMAND is run once for each case. It reads the case as one line of JSON on standard input, with whole paths and without
-the answer, and prints one JSON object with what it can answer, under the names that `README.md` has. Areas may be off by
-1 (of twice an area in mm²), or by PARTS of the right number. The status is 1 where an answer differs.
+the answer, and prints one JSON object with what it can answer, under the names that `README.md` has. Areas may be off
+by 1 (of twice an area in mm²), or by PARTS of the right number. The status is 1 where an answer differs.
 """
 
 from __future__ import annotations

@@ -19,7 +19,7 @@ ONLY_IN_TEXTS = ("no base",)
 
 
 def test_page_program_and_sources_agree() -> None:
-    """The script that the gate runs finds nothing that differs; and every code that the package refuses by has a row."""
+    """The gate's script finds nothing that differs; and every code that the package refuses by has a row."""
     ran = subprocess.run([sys.executable, str(ROOT / "scripts/codes_page"), "--check"], capture_output=True, text=True)
     assert (ran.returncode, ran.stderr) == (0, "")
 

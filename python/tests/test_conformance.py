@@ -20,7 +20,7 @@ def run(*words: str) -> "subprocess.CompletedProcess[str]":
 
 
 def test_ours_are_right() -> None:
-    """Nothing is wrong of 45 cases; what ours is not asked are the areas of gaps and overlaps of layers that do not tile."""
+    """Nothing is wrong; not asked are the areas of gaps and overlaps of layers that do not tile."""
     ran = run("--", sys.executable, "-m", "conformance.gandovel_answers")
     assert ran.returncode == 0, ran.stdout + ran.stderr
     torn = sum(1 for it in CASES if it["answer"].get("tiles") is False)

@@ -40,7 +40,7 @@ def sessions_of(text: str) -> Tuple[float, List[Tuple[str, str]]]:
 
 
 def test_recording_is_replayed(tmp_path: Path) -> None:
-    """Each command of the recording that is kept is run in a copy of the town, and prints what is shown; two minutes."""
+    """Each command of the kept recording is run in a copy of the town, and prints what is shown; two minutes."""
     seconds, commands = sessions_of((ROOT / "examples/demo/town.cast").read_text())
     assert 100 <= seconds <= 130 and len(commands) == 8
     (tmp_path / "bin").mkdir()
