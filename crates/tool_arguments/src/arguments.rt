@@ -404,7 +404,8 @@ fn force<'a>(alloc: Global) -> Arg<'a> {
         .long("force")
         .action(ArgAction::SetTrue)
         .help(
-            "Removes BASE.dbf and BASE.prj, which would name other parcels; without it, they are refused",
+            "Removes what a GIS reads with BASE.shp, as BASE.dbf, .prj and .qix of an older layer; without it, they \
+             are refused",
         )
 }
 
