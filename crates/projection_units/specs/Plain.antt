@@ -6,12 +6,16 @@ use Rattle.std.specs.List.{starts_with}
 abbrev pub ascii : ℕ → ℕ → ℕ
 ascii low high = if (high == 0) && nat_lt low 128 then low else 63
 
--- the characters of UTF-16, whose bytes of each two are the least significant first, or last; half of one is none
+-- the same by its bytes in their order, the least significant first, or last
+abbrev pub one_byte : Bool → ℕ → ℕ → ℕ
+one_byte true first second = ascii second first
+one_byte false first second = ascii first second
+
+-- the characters of UTF-16, each of two bytes; half of one is none
 abbrev pub narrow : Bool → List ℕ → List ℕ
 narrow big [] = []
 narrow big (first ∷ []) = []
-narrow true (first ∷ second ∷ rest) = ascii second first ∷ narrow true rest
-narrow false (first ∷ second ∷ rest) = ascii first second ∷ narrow false rest
+narrow big (first ∷ second ∷ rest) = one_byte big first second ∷ narrow big rest
 
 -- the characters of a file: UTF-16 and UTF-8 are known by what begins them, and other bytes are themselves
 abbrev pub plain : List ℕ → List ℕ

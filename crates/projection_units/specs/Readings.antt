@@ -1,6 +1,6 @@
--- What was read of a projection's text, byte by byte. A word is what stands between two of `"` (34), `(` (40), `)` (41),
--- `,` (44), `[` (91) and `]` (93), but for spaces and line ends before it; in a name, which quotes enclose, only a quote
--- counts.
+-- What was read of a projection's text, byte by byte (this product's own). A word is what stands between two of the
+-- bytes `"` (34), `(` (40), `)` (41), `,` (44), `[` (91) and `]` (93), but for spaces and line ends before it; in a
+-- name, which quotes enclose, only a quote counts.
 use Rattle.std.specs.Prelude.{ℕ, zero, suc, ◌+◌, Bool, true, false, ◌&&◌, ◌||◌, ◌==◌, nat_lt, List, length}
 use Rattle.std.specs.Prelude.{slice_index, slice_range, if◌then◌else◌}
 use Rattle.projection_units.specs.Factors.{stated_by}

@@ -1,7 +1,7 @@
 //! The bytes of a text, whatever it is written in.
 
 ghost use Rattle.std.specs.Prelude.{◌≡◌, IfOk};
-ghost use Rattle.projection_units.specs.Plain.{plain, narrow as narrow_of, ascii as ascii_of};
+ghost use Rattle.projection_units.specs.Plain.{plain, narrow as narrow_of, ascii as ascii_of, one_byte as one_byte_of};
 
 use std::alloc::{AllocError, Global};
 
@@ -35,15 +35,20 @@ fn narrow(alloc: Global, wide: &[u8], big: bool) -> Result<Vec<u8>, AllocError>
 {
     let mut plain = Vec::new(alloc);
     for at in 0..wide.len() / 2 {
-        let (first, second) = (wide[2 * at], wide[2 * at + 1]);
-        let byte = if big {
-            ascii(second, first)
-        } else {
-            ascii(first, second)
-        };
-        plain.push(byte)?;
+        plain.push(one_byte(big, wide[2 * at], wide[2 * at + 1]))?;
     }
     Ok(plain)
+}
+
+/// A character as one byte, by its two in their order.
+fn one_byte(big: bool, first: u8, second: u8) -> u8
+    ensures { result ≡ one_byte_of big first second }
+{
+    if big {
+        ascii(second, first)
+    } else {
+        ascii(first, second)
+    }
 }
 
 /// A character as one byte, by its two: `?` for what is not ASCII.

@@ -12,7 +12,7 @@ use crate::stated::Stated;
 use geo_exact::Unit;
 
 /// Where a text stands to the description of a plane.
-#[derive(Clone, Copy, Debug, PartialEq, Eq)]
+#[derive(Clone, Copy)]
 pub(crate) enum Place {
     /// Before it.
     Before,
@@ -23,7 +23,7 @@ pub(crate) enum Place {
 }
 
 /// What comes next of a unit.
-#[derive(Clone, Copy, Debug, PartialEq, Eq)]
+#[derive(Clone, Copy)]
 pub(crate) enum Awaited {
     /// Nothing: no unit is read.
     Nothing,
@@ -36,7 +36,7 @@ pub(crate) enum Awaited {
 }
 
 /// What was read of a text so far.
-#[derive(Clone, Copy, Debug, PartialEq, Eq)]
+#[derive(Clone, Copy)]
 pub(crate) struct Reading {
     /// Whether a name is open: in one no byte but a quote counts.
     pub(crate) quoted: bool,
