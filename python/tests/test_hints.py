@@ -13,6 +13,7 @@ from pathlib import Path
 from typing import List, Tuple
 
 import geopandas as gpd
+import pyproj
 import pytest
 from shapely.geometry import box
 
@@ -109,6 +110,36 @@ def test_a_layer_of_gdal_in_its_own_unit(tmp_path):
         assert ran.returncode == (0 if said else 2)
         if not said:
             assert ("none of mm, cm and m" if code == "EPSG:2263" else "says degrees") in ran.stderr
+
+
+SYSTEMS = [2193, 27700, 3857, 2056, 5514, 32760, 2263, 2927, 3081, 4326, 4167, 7405, 6362, 5555]
+EDITIONS = ["WKT1_ESRI", "WKT1_GDAL", "WKT2_2019"]
+
+
+def unit_of_proj(system: pyproj.CRS) -> str:
+    """What PROJ says of the unit of a system's plane, as the program's hint has it."""
+    plane = system.sub_crs_list[0] if system.is_compound else system
+    if plane.is_geographic:
+        return "degrees"
+    metres = plane.axis_info[0].unit_conversion_factor
+    return "m" if metres == 1.0 else "none of mm, cm and m"
+
+
+@pytest.mark.parametrize("edition", EDITIONS)
+def test_a_unit_is_what_proj_says(folder, edition):
+    """Planes, globes and systems with heights, in metres and in feet, in each edition of well-known text."""
+    for code in SYSTEMS:
+        system = pyproj.CRS.from_epsg(code)
+        (folder / "city.prj").write_text(system.to_wkt(edition))
+        ran = subprocess.run(
+            [tool.find_tool(), "area", "city.shp", "--hints"], cwd=folder, capture_output=True, text=True
+        )
+        said, wanted = ran.stderr.splitlines()[-1], unit_of_proj(system)
+        assert said.startswith("hint: ")
+        if wanted == "m":
+            assert said == "hint: --unit m is taken from city.prj"
+        else:
+            assert wanted in said
 
 
 def test_a_coordinate_is_written_exactly(tmp_path):

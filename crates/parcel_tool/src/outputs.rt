@@ -24,11 +24,14 @@ const BESIDE_IN_CAPITALS: [&str; 17] = [
     ".FBX", ".AIN", ".AIH", ".IXS", ".MXS",
 ];
 
-/// What begins the bits of a folder's mode in which nobody may replace a file of another.
+/// The bit of a folder's mode by which nobody may replace a file of another there.
 const STICKY: u32 = 0o1000;
 
 /// How many bytes are written at a time to see whether there is room.
-const ZEROS: [u8; 4096] = [0; 4096];
+const BLOCK: usize = 256;
+
+/// These bytes.
+const ZEROS: [u8; 256] = [0; 256];
 
 /// Whether a folder stands at a path.
 pub(crate) fn is_folder<R: Files>(rt: &R, path: &str) -> bool {
@@ -232,10 +235,12 @@ fn try_file<R: Files>(rt: &R, path: &str, size: usize) -> Result<(), ErrorKind> 
 /// Writes so many zeros to a new file, and closes it once the device has them.
 fn fill<W: Write + OpenFile + Drop>(file: W, size: usize) -> io::Result<()> {
     let mut file = file;
-    for _ in 0..size / ZEROS.len() {
+    for _ in 0..size / BLOCK {
         file.write_all(&ZEROS)?;
     }
-    file.write_all(&ZEROS[..size % ZEROS.len()])?;
+    if let Some(rest) = ZEROS.get(..size % BLOCK) {
+        file.write_all(rest)?;
+    }
     file.flush()?;
     file.sync_all()
 }

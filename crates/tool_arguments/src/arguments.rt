@@ -287,6 +287,8 @@ fn explain_command<'a>(alloc: Global) -> Result<Command<'a>, AllocError> {
             Arg::new(alloc, "CODE")
                 .action(ArgAction::Append)
                 .num_args(0..)
+                // Of the text of a refusal, as `net -1`.
+                .allow_negative_numbers(true)
                 .help("The code as it was printed: `F9 C2`, `H2`, `no memory`"),
         )
 }
