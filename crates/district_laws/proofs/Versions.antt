@@ -16,12 +16,14 @@ use Rattle.district_laws.specs.Live.{LiveDistrict, Version, district_at, IsWhole
 module _ {A : Type 0} where
   -- the same districts as rows, whatever the versions are
   rows_at : (versions : List (Version A))
-      → district_rows (map district_at versions) ≡ map (λ (district : LiveDistrict). district.row) (map (λ version. version.of) versions)
+      → district_rows (map district_at versions)
+      ≡ map (λ (district : LiveDistrict). district.row) (map (λ version. version.of) versions)
   rows_at [] = refl
   rows_at (version ∷ versions) = ap (λ rows. version.of.row ∷ rows) (rows_at versions)
 
   each_at : (versions : List (Version A))
-      → AllByRecursion (λ (district : LiveDistrict). CoversAlike district.outline district.row.corners) (map (λ version. version.of) versions)
+      → AllByRecursion (λ (district : LiveDistrict). CoversAlike district.outline district.row.corners)
+      (map (λ version. version.of) versions)
       → AllByRecursion IsWholeVersion versions → AllByRecursion IsDistrict (map district_at versions)
   each_at [] covers whole = tt
   each_at (version ∷ versions) covers whole = (
