@@ -26,9 +26,9 @@ import python_package  # noqa: E402
 ALGORITHMS = {
     "checkparcels": ["INPUT=parcels.gpkg", "NUMBER_FIELD=parcel_no", "FAULTS=faults.gpkg"],
     "overlayzones": [
-        "PARCELS=parcels.gpkg",
+        "INPUT=parcels.gpkg",
         "NUMBER_FIELD=parcel_no",
-        "ZONES=zones.gpkg",
+        "OVERLAY=zones.gpkg",
         "ZONE_FIELD=zone",
         "SPLIT=split.gpkg",
         "PARTS=parts.gpkg",
