@@ -47,3 +47,11 @@ def test_package_has_its_own() -> None:
 def test_no_code_stands_twice() -> None:
     codes = [row["code"] for row in ROWS]
     assert len(codes) == len(set(codes))
+
+
+def test_package_wants_its_own_major_version() -> None:
+    """The program that the package takes is of the package's own major version."""
+    from gandovel import __version__
+    from gandovel.program.tool import WANTED
+
+    assert WANTED == int(__version__.split(".")[0])
