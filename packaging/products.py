@@ -61,6 +61,7 @@ def tarball(root: Path, parts: Files, relink: Files, name: str, seconds: int) ->
         "LICENCE-STATE.txt": parts["licence"],
         **documents(root, "."),
         **read_tree(root / "examples/town", "examples/town"),
+        **read_tree(root / "examples/demo", "examples/demo"),
         **{f"relink/{path}": it for path, it in relink.items()},
     }
     return tar_gz({path.removeprefix("./"): it for path, it in files.items()}, seconds, f"{name}/")
