@@ -6,7 +6,7 @@ use std::alloc::{AllocError, Global};
 use std::test::Fail;
 
 /// Texts of one line, in which ' stands for ", and what each says.
-const TEXTS: [(&str, Stated); 34] = [
+const TEXTS: [(&str, Stated); 35] = [
     // As ESRI writes it.
     (
         "PROJCS['NZTM',GEOGCS['GCS',DATUM['D',SPHEROID['GRS_1980',6378137.0,298.257222101]],PRIMEM['Greenwich',0.0],\
@@ -46,7 +46,6 @@ const TEXTS: [(&str, Stated); 34] = [
         "PROJCS['a',UNIT['metre',1.000000000000]]",
         Stated::Length(Unit::M),
     ),
-    ("PROJCS['a',UNIT['metre',100E-2]]", Stated::Length(Unit::M)),
     (
         "PROJCS['a',UNIT['Centimeter',1e-2]]",
         Stated::Length(Unit::Cm),
@@ -111,6 +110,9 @@ const TEXTS: [(&str, Stated); 34] = [
     ("PROJCS['a',UNIT['metre',0.3048]]", Stated::Unclear),
     ("PROJCS['a',UNIT['mm',1]]", Stated::Unclear),
     ("PROJCS['a',UNIT['metre',one]]", Stated::Unclear),
+    // Decimals count as they are written.
+    ("PROJCS['a',UNIT['metre',100E-2]]", Stated::Unclear),
+    ("PROJCS['a',UNIT['metre',10]]", Stated::Unclear),
     ("PROJCS['a',UNIT['metre']]", Stated::Unclear),
     ("PROJCS['a',UNIT['metre',1", Stated::Unclear),
     ("+proj=utm +zone=60 +south +units=m", Stated::Unclear),
