@@ -1,5 +1,6 @@
 -- How many metres a unit has, as decimals. They count as they are written, so that no rounding says a unit.
-use Rattle.std.specs.Prelude.{ℕ, Bool, ◌||◌, ◌&&◌, ◌==◌, List, length, take, drop, codes, Option, None, Some, if◌then◌else◌}
+use Rattle.std.specs.Prelude.{ℕ, Bool, ◌||◌, ◌&&◌, ◌==◌, List, length, take, drop, codes, Option, None, Some}
+use Rattle.std.specs.Prelude.{if◌then◌else◌}
 use Rattle.std.specs.List.{list_all}
 use Rattle.std.specs.Str.{bytes_eq}
 use Rattle.geo_exact.specs.declared.coord.Unit.{Unit as LengthUnit}
@@ -9,7 +10,8 @@ use Rattle.projection_units.specs.declared.stated.Stated.TheVariants.{Length, Ot
 
 -- the word, and zeros (48) after it, or nothing
 abbrev pub then_zeros : List ℕ → List ℕ → Bool
-then_zeros text word = bytes_eq (take (length word) text) word && list_all (λ byte. byte == 48) (drop (length word) text)
+then_zeros text word =
+    bytes_eq (take (length word) text) word && list_all (λ byte. byte == 48) (drop (length word) text)
 
 -- 1, and how else it is written
 abbrev pub metre_factor : List ℕ → Bool
