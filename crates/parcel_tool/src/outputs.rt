@@ -184,22 +184,16 @@ fn why_not_made<R: Files>(
 ) -> Result<Known, AllocError> {
     let main = format!(in alloc; "{base}.shp.hint.new")?;
     let index = format!(in alloc; "{base}.shx.hint.new")?;
-    let mut tried = try_file(rt, main.as_str(), sizes.main);
-    if tried.is_ok() {
-        tried = try_file(rt, index.as_str(), sizes.index);
-        let _ = rt.remove_file(index.as_str());
+    if let Err(kind) = try_file(rt, main.as_str(), sizes.main) {
+        return known_of_kind(alloc, base, kind);
     }
     let owner = owner_of(rt, main.as_str());
+    let tried = try_file(rt, index.as_str(), sizes.index);
     let _ = rt.remove_file(main.as_str());
     if let Err(kind) = tried {
-        return match words_of_kind(kind) {
-            Some(why) => {
-                let known = format!(in alloc; "{base}.shp and {base}.shx: {why}")?;
-                Ok(Known::Cause(known))
-            }
-            None => Ok(Known::NotUsual),
-        };
+        return known_of_kind(alloc, base, kind);
     }
+    let _ = rt.remove_file(index.as_str());
     for ending in [".shp", ".shx"] {
         let path = format!(in alloc; "{base}{ending}")?;
         let other = owner_of(rt, path.as_str());
@@ -221,12 +215,15 @@ fn owner_of<R: Files>(rt: &R, path: &str) -> Option<u32> {
     }
 }
 
-/// Makes a file of so many zeros at a path where none stands.
+/// Makes a file of so many zeros at a path where none stands. Where it can't be filled, it is removed again.
 fn try_file<R: Files>(rt: &R, path: &str, size: usize) -> Result<(), ErrorKind> {
     match File::create_new(rt, path) {
         Ok(file) => match fill(file, size) {
             Ok(()) => Ok(()),
-            Err(error) => Err(error.kind()),
+            Err(error) => {
+                let _ = rt.remove_file(path);
+                Err(error.kind())
+            }
         },
         Err(error) => Err(error.kind()),
     }
@@ -243,6 +240,17 @@ fn fill<W: Write + OpenFile + Drop>(file: W, size: usize) -> io::Result<()> {
     }
     file.flush()?;
     file.sync_all()
+}
+
+/// What is known of the files at a path by an error of this kind.
+fn known_of_kind(alloc: Global, base: &str, kind: ErrorKind) -> Result<Known, AllocError> {
+    match words_of_kind(kind) {
+        Some(why) => {
+            let known = format!(in alloc; "{base}.shp and {base}.shx: {why}")?;
+            Ok(Known::Cause(known))
+        }
+        None => Ok(Known::NotUsual),
+    }
 }
 
 /// What the system says by an error of this kind.

@@ -6,7 +6,7 @@ use std::alloc::{AllocError, Global};
 use std::test::Fail;
 
 /// Texts of one line, in which ' stands for ", and what each says.
-const TEXTS: [(&str, Stated); 35] = [
+const TEXTS: [(&str, Stated); 36] = [
     // As ESRI writes it.
     (
         "PROJCS['NZTM',GEOGCS['GCS',DATUM['D',SPHEROID['GRS_1980',6378137.0,298.257222101]],PRIMEM['Greenwich',0.0],\
@@ -110,7 +110,8 @@ const TEXTS: [(&str, Stated); 35] = [
     ("PROJCS['a',UNIT['metre',0.3048]]", Stated::Unclear),
     ("PROJCS['a',UNIT['mm',1]]", Stated::Unclear),
     ("PROJCS['a',UNIT['metre',one]]", Stated::Unclear),
-    // Decimals count as they are written.
+    // Decimals count as they are written, and of exponents a few are known.
+    ("PROJCS['a',UNIT['',1.00E+00]]", Stated::Unclear),
     ("PROJCS['a',UNIT['metre',100E-2]]", Stated::Unclear),
     ("PROJCS['a',UNIT['metre',10]]", Stated::Unclear),
     ("PROJCS['a',UNIT['metre']]", Stated::Unclear),

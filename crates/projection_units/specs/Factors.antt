@@ -1,6 +1,6 @@
 -- How many metres a unit has, as decimals. They count as they are written, so that no rounding says a unit.
-use Rattle.std.specs.Prelude.{ℕ, Bool, ◌||◌, ◌&&◌, ◌==◌, List, length, take, drop, codes, Option, None, Some}
-use Rattle.std.specs.Prelude.{if◌then◌else◌}
+use Rattle.std.specs.Prelude.{ℕ, Bool, ◌||◌, ◌&&◌, ◌==◌, nat_lt, List, length, take, drop, codes}
+use Rattle.std.specs.Prelude.{Option, None, Some, if◌then◌else◌}
 use Rattle.std.specs.List.{list_all}
 use Rattle.std.specs.Str.{bytes_eq}
 use Rattle.geo_exact.specs.declared.coord.Unit.{Unit as LengthUnit}
@@ -45,6 +45,15 @@ agreed (Some Cm) (Some Cm) = Length Cm
 agreed (Some M) (Some M) = Length M
 agreed (Some named) by_factor = Unclear
 
+-- whether a text has digits (48 to 57) and points (46) alone, as a number without an exponent
+abbrev pub decimals : List ℕ → Bool
+decimals text = list_all (λ byte. (nat_lt 47 byte && nat_lt byte 58) || (byte == 46)) text
+
+-- another unit is said by decimals alone: of other texts it is not known how many metres they are
+abbrev pub told : List ℕ → Stated → Stated
+told factor Other = if decimals factor then Other else Unclear
+told factor stated = stated
+
 -- what a unit says by its name and the text of its factor
 abbrev pub stated_by : Option LengthUnit → List ℕ → Stated
-stated_by named factor = agreed named (unit_of_metres factor)
+stated_by named factor = told factor (agreed named (unit_of_metres factor))

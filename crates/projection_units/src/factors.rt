@@ -5,16 +5,28 @@ ghost use Rattle.std.specs.List.{list_all};
 ghost use Rattle.std.specs.Str.{bytes_eq};
 ghost use Rattle.projection_units.specs.Factors.{stated_by, agreed as agreed_by, unit_of_metres as unit_of};
 ghost use Rattle.projection_units.specs.Factors.{then_zeros, metre_factor, centimetre_factor, millimetre_factor};
+ghost use Rattle.projection_units.specs.Factors.{decimals};
 
 use crate::stated::Stated;
 use geo_exact::Unit;
 
 /// What a unit says by its name and the text of its factor, whose decimals are those of 1, 0.01 or 0.001 metres. Where
-/// the name is one of another unit, nothing is clear.
+/// the name is one of another unit, or the text is none of decimals, nothing is clear.
 pub(crate) fn unit_by(named: Option<Unit>, factor: &[u8]) -> Stated
     ensures { result ≡ stated_by named factor.now }
 {
-    agreed(named, unit_of_metres(factor))
+    match agreed(named, unit_of_metres(factor)) {
+        Stated::Other if !are_decimals(factor) => Stated::Unclear,
+        stated => stated,
+    }
+}
+
+/// Whether a text has digits and points alone, as a number without an exponent.
+fn are_decimals(text: &[u8]) -> bool
+    ensures { result ≡ decimals text.now }
+{
+    text.iter()
+        .all(|byte| (*byte > 47 && *byte < 58) || *byte == b'.')
 }
 
 /// What a name and a factor say together.
