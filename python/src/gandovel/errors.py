@@ -116,6 +116,18 @@ class SeveralRefusedEdits(RefusedEdit):
         return list(self._problems)
 
 
+class PartlyMade(RefusedEdit):
+    """A transaction of which not all edits were made, since another clerk's came between, or the session ended.
+
+    `made` has the answers to those that were made, in order; `unsure` those whose answer did not come: they may be in
+    the journal; `left` those that were not made. Each edit is one of the three.
+    """
+
+    def __init__(self, code: str, text: str, made: Sequence[Any], unsure: Sequence[Any], left: Sequence[Any]) -> None:
+        super().__init__(code, text)
+        self.made, self.unsure, self.left = list(made), list(unsure), list(left)
+
+
 class SessionError(Refused):
     """What a session answers in place of what it was asked for; ``code`` stands behind ``error: `` in its answer."""
 
