@@ -50,6 +50,32 @@ def back(
     own (`edited` 1), with the attributes of the parcel that it overlaps most (measured) and its index label;
     `came_from` has the numbers of all parcels that it overlaps, by the program. Each attribute stands once. Where the
     rings' `ids` in the program are given, the column `ids` has each parcel's (text, comma separated).
+
+    Parameters
+    ----------
+    prepared : Prepared
+        The register as it was before the edits.
+    rings : sequence of arrays
+        What `gandovel.program.layer_files.read_rings` reads of an export.
+
+    Returns
+    -------
+    GeoDataFrame
+        In the layer's projection and unit.
+
+    Raises
+    ------
+    Refused
+        H2: rings that do not tile the island.
+
+    Examples
+    --------
+    >>> import geopandas, gandovel
+    >>> from shapely.geometry import box
+    >>> plots = geopandas.GeoDataFrame({"parcel_no": [7]}, geometry=[box(0, 0, 10, 10)], crs=25832)
+    >>> prepared = gandovel.prepare(plots)
+    >>> gandovel.back(prepared, prepared.islands[0].parcels.rings).came_from.tolist()
+    ['7']
     """
     rows = _sorted(prepared, *_rows(prepared, rings, at))
     frame = _frame(prepared, rings, rows)
