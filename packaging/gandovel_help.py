@@ -1,6 +1,6 @@
-"""What the command line of `gandovel` says of itself, as JSON: for its man page and completions. Debian's Python runs it.
+"""What the command line of `gandovel` says of itself, as JSON: for its man page and completions.
 
-The package's modules need libraries of Debian's alone: tqdm and NumPy.
+Debian's Python runs it: the package's modules that it reads need tqdm and NumPy.
 """
 import argparse
 import json

@@ -141,8 +141,6 @@ def test_explains_codes_of_the_program_and_the_package(folder):
     for words in (["P6"], ["F9", "C2"], ["H2"], ["W6"], ["no", "memory"]):
         told = command("explain", *words, cwd=folder)
         assert told.returncode == 0 and "what to do: " in told.stdout and " ".join(words) in told.stdout
-    both = command("explain", "L1", cwd=folder).stdout
-    assert both.count("L1: ") == 2
     none = command("explain", "X9", cwd=folder)
     assert (none.returncode, none.stdout) == (2, "") and "there is no code X9" in none.stderr
 

@@ -63,8 +63,15 @@ def test_the_journal_is_gone_on_with(tmp_path):
     with gv.open(plots(), tmp_path / "journal") as register:
         assert register.count() == 1 and register.parcels.came_from.tolist() == ["7,3", "2"]
         assert register.edit(gv.Merge(gv.Id(4), 2)).new == (5,)
-    with pytest.raises(gv.JournalRefused, match="another layer"):
+    with pytest.raises(
+        gv.JournalRefused, match="another layer .*/journal: it was begun with other parcels: give those"
+    ):
         gv.open(plots().iloc[::-1], tmp_path / "journal")
+    with pytest.raises(gv.JournalRefused, match="S1 .*no/journal: it can't be opened, made or read"):
+        gv.open(plots(), tmp_path / "no/journal")
+    (tmp_path / "text").write_text("merge 1 2\n")
+    with pytest.raises(gv.JournalRefused, match="no journal .*/text: it is no journal: give another path"):
+        gv.open(plots(), tmp_path / "text")
 
 
 def test_numbers_that_are_gone_say_where_to(register):

@@ -78,9 +78,6 @@ OWN: Dict[str, Words] = {
     "W5": Words("a package of the server is missing", "it is not installed", "install what the line names"),
     "W6": Words("an option of backup is missing", "", "name the journal by --journal, the folder by --out"),
     "W7": Words("the OpenID issuer is not taken", "a wrong address, or no network", "mend --oidc"),
-    "L1": Words(
-        "a line is no edit", "a word too many, or a number with a blank", 'compare it with docs/edits.md; "1 2"'
-    ),
 }
 """Each code of the package that a refusal begins with, in the order in which they are listed."""
 

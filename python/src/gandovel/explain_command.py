@@ -8,9 +8,6 @@ from typing import Any, List
 
 from .codes import OWN, lines_of
 
-_OF_BOTH = ("L1",)
-"""Codes that the program has, too: its words come first."""
-
 
 def add_explain(commands: Any) -> None:
     """Adds it to the commands of a command line."""
@@ -21,7 +18,7 @@ def add_explain(commands: Any) -> None:
 def run_explain(options: argparse.Namespace) -> int:
     """Prints codes in words; the status is 2 where there is no such code."""
     code = " ".join(options.code).rstrip(":")
-    told = _own(code) if code in OWN and code not in _OF_BOTH else [*_of_program(code), *_own(code)]
+    told = _own(code) if code in OWN else [*_of_program(code), *_own(code)]
     if not told:
         print(f"error: there is no code {code}; `gandovel explain` lists all", file=sys.stderr)
         return 2
@@ -33,7 +30,7 @@ def _own(code: str) -> List[str]:
     """The package's words on a code; without one a line for each, as the program lists its own."""
     if code:
         return lines_of(code, OWN[code]) if code in OWN else []
-    return [f"{name}: {words.meaning}" for name, words in OWN.items() if name not in _OF_BOTH]
+    return [f"{name}: {words.meaning}" for name, words in OWN.items()]
 
 
 def _of_program(code: str) -> List[str]:

@@ -10,7 +10,7 @@ from typing import Any, Callable, Dict, Iterable, List, Optional, Sequence, Tupl
 import geopandas as gpd
 import pandas as pd
 
-from ..errors import Refused
+from ..errors import JournalRefused, Refused
 from ..exact.whole_numbers import whole_numbers
 from ..large.verdict import test_editable
 from ..out.exports import back
@@ -33,6 +33,14 @@ from .transaction import Transaction
 
 OWN_DESK = "own"
 """The desk of the register's own edits, where other clerks have desks, too."""
+_ADVICE = {
+    "S1": "it can't be opened, made or read, or is no regular file: give a path in a folder that is there",
+    "in use": "another session has it open: close that first",
+    "no journal": "it is no journal: give another path",
+    "another layer": "it was begun with other parcels: give those, in their order, or another path",
+    "changed": "this line is not as a session wrote it: gandovel journal --repair says what can be kept",
+}
+"""What to do where a journal is refused, by the code."""
 
 
 def open(
@@ -127,6 +135,10 @@ class OpenRegister:
             names = (OWN_DESK, *desks) if desks else ()
             layers = self._path("city.shp"), self._path("parcels.shp")
             self.session = Session(*layers, journal=self.journal, desks=names, timeout=timeout)
+        except JournalRefused as fault:
+            self._folder.cleanup()
+            words = _ADVICE.get(fault.code, "this edit does not fit the layer: give the layer that the journal is of")
+            raise type(fault)(fault.code, f"{fault.text}: {self.journal}: {words}".lstrip(": "), fault.line) from fault
         except BaseException:
             self._folder.cleanup()
             raise

@@ -175,5 +175,8 @@ def path_of(prepared: Prepared, places: Places) -> str:
 
 
 def _whole(places: Places, prepared: Prepared) -> Array:
-    """Places in the layer's unit as corners (n, 2) in whole mm."""
-    return np.asarray(np.floor(np.asarray(places, dtype=float) * prepared.scale + 0.5), dtype=np.int64)
+    """Places in the layer's unit as corners (n, 2) in whole mm; shapes of shapely are taken by their corners."""
+    listed = getattr(places, "coords", places)
+    plain = [place.coords[0][:2] if hasattr(place, "coords") else place for place in listed]
+    values = np.asarray(plain, dtype=float).reshape(-1, 2) * prepared.scale
+    return np.asarray(np.floor(values + 0.5), dtype=np.int64)
