@@ -173,3 +173,13 @@ def test_edits_from_standard_input(folder):
     env = {**os.environ, "PYTHONPATH": str(SOURCES.parent)}
     ended = subprocess.run(words, cwd=folder, env=env, input="merge 7 '1 / 3'\n", capture_output=True, text=True)
     assert ended.stdout == "line 1 ok 1\n2 parcels, 1 of them from edits\n", ended.stderr
+
+
+def test_the_command_line_is_read_without_geopandas():
+    """It takes a second, of which `--help`, `many` and a shell's completion have no use."""
+    words = (
+        "import sys, gandovel.cli as cli; cli.parser(); print({'pandas', 'geopandas', 'shapely'} & set(sys.modules))"
+    )
+    env = {**os.environ, "PYTHONPATH": str(SOURCES.parent)}
+    ended = subprocess.run([sys.executable, "-c", words], env=env, capture_output=True, text=True, check=True)
+    assert ended.stdout == "set()\n"
