@@ -233,6 +233,17 @@ def test_units_of_the_layer(tmp_path):
     assert repr(register.session.notes) == "[]"
 
 
+def test_the_area_outside_is_no_parcel():
+    """With `frame` the program has one there."""
+    with gv.open(plots(), frame=True) as register:
+        found = register.locate([(5, 5), (-0.5, 5), (0, 5), (10, 5)])
+        assert found["where"].tolist() == ["inside", "outside", "edge", "edge"]
+        assert found.numbers.tolist() == ["7", "", "7", "7,3"] and found.ids.tolist() == ["1", "", "1", "1,2"]
+        assert register.parcels.parcel_no.tolist() == [7, 3, 2]
+        register.edit(gv.Merge(7, 3))
+        assert register.parcels.came_from.tolist() == ["7,3", "2"]
+
+
 def test_the_accessor_opens(tmp_path):
     with plots().gandovel.open(tmp_path / "journal") as register:
         assert repr(register).startswith("<OpenRegister: 3 parcels as given, 0 entries")
