@@ -11,7 +11,6 @@ from pathlib import Path
 import pytest
 
 PACKAGING = Path(__file__).resolve().parents[2] / "packaging"
-SHARE = Path(__file__).resolve().parents[1] / "share"
 
 
 @pytest.fixture
@@ -61,14 +60,8 @@ def given(shown):
     return [it.rstrip("/") for it in re.findall(r"<([^<>]*)>", re.search(r"^(?:<[^<>]*>)+$", shown, re.M)[0])]
 
 
-BASH = (
-    ["bash", "--norc", "-i"],
-    f"{WORDS}; source {PACKAGING}/parcel_tool.bash; source {SHARE}/bash-completion/completions/gandovel",
-)
-ZSH = (
-    ["zsh", "-f", "-i"],
-    f"fpath=({PACKAGING} {SHARE}/zsh/site-functions $fpath); autoload -U compinit; compinit -D; {WORDS}",
-)
+BASH = (["bash", "--norc", "-i"], f"{WORDS}; source {PACKAGING}/parcel_tool.bash; source {PACKAGING}/gandovel.bash")
+ZSH = (["zsh", "-f", "-i"], f"fpath=({PACKAGING} $fpath); autoload -U compinit; compinit -D; {WORDS}")
 
 
 @pytest.mark.parametrize("argv, setup", [BASH, ZSH], ids=["bash", "zsh"])
@@ -113,13 +106,7 @@ def test_completes(argv, setup, line, words, folder):
 def test_completes_in_fish(line, words, folder):
     if not shutil.which("fish"):
         pytest.skip("no fish")
-    program = line.split()[0]
-    page = (
-        PACKAGING / "parcel_tool.fish"
-        if program == "parcel_tool"
-        else SHARE / "fish/vendor_completions.d/gandovel.fish"
-    )
-    asked = f"source {page}; complete -C {line!r}"
+    asked = f"source {PACKAGING}/{line.split()[0]}.fish; complete -C {line!r}"
     said = subprocess.run(
         ["fish", "--no-config", "-c", asked], cwd=folder, check=True, stdout=subprocess.PIPE, text=True
     )
