@@ -116,6 +116,13 @@ def test_a_transaction_makes_all_its_edits(register):
         edits.edit(CUT)
     with pytest.raises(gv.Refused, match="P13 .* is of a transaction"):
         register.edit(gv.Merge(left, 3))
+    with pytest.raises(ValueError, match="is of another transaction: name the parcel by its Id"):
+        with register.transaction() as others:
+            others.edit(gv.Insert((0, 0), (10, 0), (5, 0)))
+            others.edit(gv.Merge(7, right))
+    with pytest.raises(gv.Refused, match="P13 .* is of a transaction"):
+        gv.apply(plots(), gv.Merge(left, 3))
+    assert register.count() == 4
 
 
 def test_a_transaction_with_a_refused_edit_makes_none(register):

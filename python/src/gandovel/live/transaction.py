@@ -1,6 +1,7 @@
 """Edits of an open register that are collected, tried together, and then made one after another."""
 from __future__ import annotations
 
+from itertools import count
 from types import TracebackType
 from typing import TYPE_CHECKING, List, Optional, Sequence, Tuple, Type
 
@@ -15,6 +16,11 @@ TRIES = 8
 """How often edits are tried anew where other clerks' came in the meantime, before they are made all the same."""
 
 
+_SINCE = ", since others came between"
+_NUMBERS = count(1)
+"""The numbers of transactions, so that a parcel to come is not taken for one of another."""
+
+
 class Transaction:
     """Edits that are made where a `with` block ends, if all of them can be; `OpenRegister.transaction` gives one.
 
@@ -22,7 +28,8 @@ class Transaction:
     program on the layer and the entries of this moment, where nobody sees them. If one is refused there, none is made.
     Else they are sent at once, one after another. An edit of another clerk can still come between: readers may then
     see some of the edits without the others, and where one is refused for it, those before it stay made, and
-    `PartlyMade` says which. Where nobody else edits the register, all edits are made, or none.
+    `PartlyMade` says which; so it is where the session ends between. Where nobody else edits the register and the
+    session lives on, all edits are made, or none.
 
     Where the block is left by an exception, no edit is tried or made.
 
@@ -61,6 +68,7 @@ class Transaction:
         self._register, self._who = register, who
         self._edits: List[Edit] = []
         self._has_ended = False
+        self._number = next(_NUMBERS)
 
     def edit(self, edit: Edit) -> Tuple[NewId, ...]:
         """Adds an edit.
@@ -76,14 +84,17 @@ class Transaction:
         TypeError
             What is no edit.
         ValueError
-            The block has ended.
+            The block has ended; a parcel to come is of another one.
         """
         if type(edit) not in BRINGS:
             raise TypeError(f"no edit: {edit!r}")
         if self._has_ended:
             raise ValueError("the transaction has ended: begin another one")
+        for parcel in (getattr(edit, name, None) for name in ("parcel", "one", "other")):
+            if isinstance(parcel, NewId) and parcel.of != self._number:
+                raise ValueError(f"{parcel} is of another transaction: name the parcel by its Id, as its `made` has it")
         self._edits.append(edit)
-        return tuple(NewId(len(self._edits) - 1, which) for which in range(BRINGS[type(edit)]))
+        return tuple(NewId(len(self._edits) - 1, which, self._number) for which in range(BRINGS[type(edit)]))
 
     def __enter__(self) -> "Transaction":
         return self
@@ -122,13 +133,17 @@ class Transaction:
 
     def _partly(self, place: int, fault: Refused) -> PartlyMade:
         """What is said where the edit at a place was refused, or not answered, behind others that were made."""
-        count, is_open = len(self._edits), _may_be_made(fault)
+        many, is_open = len(self._edits), _may_be_made(fault)
         unsure = self._edits[place : place + 1] if is_open else []
         left = self._edits[place + len(unsure) :]
         numbers = ", ".join(str(answer.number) for answer in self.made)
         sentences = [
-            f"{fault.text}: edit {place + 1} of {count}, {self._edits[place]!r}, was "
-            + ("not answered and may be in the journal" if is_open else "refused, since others came between"),
+            f"{fault.text}: edit {place + 1} of {many}, {self._edits[place]!r}, was "
+            + (
+                "not answered and may be in the journal"
+                if is_open
+                else f"refused{_SINCE if fault.code[0] in 'EP' else ''}"
+            ),
             f"made were {place} (entries {numbers})" if place else "none was made before it",
             f"{len(left)} were not made",
         ]

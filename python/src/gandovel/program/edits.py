@@ -1,7 +1,7 @@
 """Edits of parcels, in the layer's own numbers and units, as the lines of a clerk's file."""
 from __future__ import annotations
 
-from dataclasses import dataclass
+from dataclasses import dataclass, field
 from typing import Any, Callable, List, Sequence, Tuple, Union
 
 import numpy as np
@@ -31,11 +31,12 @@ class Id(int):
 class NewId:
     """A parcel that is still to come: of the edit at this place of its transaction (from 0), the first one or second.
 
-    `OpenRegister.transaction` gives it out, for edits behind that one.
+    `Transaction.edit` gives it out, for edits behind that one. `of` is the transaction's number.
     """
 
     edit: int
     which: int
+    of: int = field(default=0, repr=False)
 
 
 Parcel = Union[str, int, float, NewId]
