@@ -113,6 +113,14 @@ def test_a_sealed_record_of_another_form_is_not_taken(halves):
     assert made.entries == 1 and not made.is_whole
 
 
+def test_a_long_journal_takes_a_time_that_grows_with_it(halves):
+    """30,000 entries, of which one of the middle has a bit that flipped."""
+    text = halves.text_of(*(f"straighten {at} 7" for at in range(30_000)))
+    at = text.index(b"straighten 15000 7")
+    made = repair(text[:at] + b"t" + text[at + 1 :])
+    assert made.text == text and made.entries == 30_000 and len(made.damages) == 1
+
+
 def test_long_records_are_not_searched(text, monkeypatch):
     monkeypatch.setattr(journal_repair, "MOST_TRIED", 50)
     parts = parts_of(text)

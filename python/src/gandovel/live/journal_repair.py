@@ -121,13 +121,22 @@ def _digest_of(before: str, stamp: bytes, edit: bytes) -> str:
 
 def _plain(data: bytes, at: int, before: str, number: int) -> Optional[_Found]:
     """The record at a byte, as it stands."""
-    lines = data[at:].split(b"\n", 2) if len(data) - at < 1 << 21 else data[at : at + (1 << 21)].split(b"\n", 2)
-    if len(lines) < 2:
+    lines = _lines_at(data, at)
+    if lines is None:
         return None
-    is_whole = len(lines) == 3
     found = _sealed(lines[0], lines[1], before, number)
-    wrong = "" if is_whole else "it lacks its line feed"
-    return found and _Found(found[0], len(found[0]) - (0 if is_whole else 1), found[1], wrong)
+    wrong = "" if lines[2] else "it lacks its line feed"
+    return found and _Found(found[0], len(found[0]) - (0 if lines[2] else 1), found[1], wrong)
+
+
+def _lines_at(data: bytes, at: int) -> Optional[Tuple[bytes, bytes, bool]]:
+    """The two lines at a byte, and whether the second one has its line feed; None where there is no second one."""
+    first = data.find(b"\n", at)
+    if first < 0:
+        return None
+    second = data.find(b"\n", first + 1)
+    end = len(data) if second < 0 else second
+    return data[at:first], data[first + 1 : end], second >= 0
 
 
 def _sealed(stamp: bytes, edit: bytes, before: str, number: int) -> Optional[Tuple[bytes, str]]:
@@ -153,8 +162,8 @@ def _next(data: bytes, at: int, before: str, number: int) -> Optional[_Found]:
 
 def _by_next(data: bytes, at: int, before: str, number: int) -> Optional[_Found]:
     """A record whose digest was changed in its place: the record behind it is sealed behind the right one."""
-    lines = data[at : at + (1 << 21)].split(b"\n", 2)
-    if len(lines) < 3 or not lines[0].startswith(b"# %d " % number):
+    lines = _lines_at(data, at)
+    if lines is None or not lines[2] or not lines[0].startswith(b"# %d " % number):
         return None
     stamp, edit = lines[0], lines[1]
     digest, length = _digest_of(before, stamp, edit), len(stamp) + len(edit) + 2
