@@ -15,13 +15,12 @@ from pathlib import Path
 from typing import Any, Dict, List, Optional, Sequence, Set, Tuple, Union
 
 import numpy as np
-import shapely.wkb
 from pyproj import CRS
 from pyproj.exceptions import CRSError
 from shapely.errors import ShapelyError
 
 from ..errors import Refused
-from ..shapes import MULTIPOLYGON, POLYGON, kind_of, rings_of
+from ..shapes import MULTIPOLYGON, POLYGON, kind_of, rings_of, shapes_of
 
 PAGE = Path(__file__).parent / "map_page"
 TOLD_UNIT = re.compile(r"Unit \((?:told|of the projection)\): (?P<name>.+?), (?P<metres>[0-9.e+-]+) m;")
@@ -215,7 +214,7 @@ def _rings(blob: Optional[bytes]) -> Rings:
     wkb = blob[8 + BOX_BYTES[blob[3] >> 1 & 7] :]
     if wkb[0] == 1 and kind_of(wkb) % 1000 in (POLYGON, MULTIPOLYGON):
         return [ring for rings in rings_of(wkb) for ring in _oriented([it[:-1] for it in rings if len(it) > 1])]
-    return _rings_of_shape(shapely.wkb.loads(wkb))
+    return _rings_of_shape(shapes_of([wkb])[0])
 
 
 def _rings_of_shape(shape: Any) -> Rings:
