@@ -101,3 +101,24 @@ def test_completes_in_fish(line, words, folder):
         ["fish", "--no-config", "-c", asked], cwd=folder, check=True, stdout=subprocess.PIPE, text=True
     )
     assert {it.partition("\t")[0].replace("\\", "") for it in said.stdout.splitlines()} == words
+
+
+@pytest.mark.parametrize(
+    "line, words",
+    [
+        ("gandovel ov", ["overlay"]),
+        ("gandovel check 'my p", ["check", "my parcels.shp"]),
+        ("gandovel many --eng", ["many", "--engine"]),
+        ("gandovel mend --to lar", ["mend", "--to", "larger"]),
+    ],
+)
+def test_completes_the_package_s_command(line, words, folder):
+    """By argcomplete, which asks the command itself."""
+    (folder / "bin").mkdir()
+    command = folder / "bin/gandovel"
+    sources = Path(__file__).resolve().parents[1] / "src"
+    asks = f'PYTHONPATH={sources} exec /usr/bin/python3 -m gandovel "$@"'
+    command.write_text(f'#!/bin/sh\n[ -n "$_ARGCOMPLETE" ] && {asks}\nprintf "<%s>" "$@"; echo\n')
+    command.chmod(0o755)
+    setup = f'PATH={folder}/bin:$PATH; eval "$(register-python-argcomplete gandovel)"'
+    assert given(typed(BASH[0], setup, line, folder)) == words
