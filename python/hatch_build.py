@@ -1,7 +1,7 @@
 """What Hatchling builds: the package, and in a wheel the program as `gandovel/bin/parcel_tool`, where it is there.
 
-The program is the one that `GANDOVEL_TOOL` names, else `crates/parcel_tool/out/parcel_tool` of the repository. A release
-also names the systems it runs on (`GANDOVEL_PLATFORM`), and a folder of files about it (`GANDOVEL_INFO`).
+The program is the one that `GANDOVEL_TOOL` names, else `crates/parcel_tool/out/parcel_tool` of the repository. A
+release also names the systems it runs on (`GANDOVEL_PLATFORM`), and a folder of files about it (`GANDOVEL_INFO`).
 """
 from __future__ import annotations
 
