@@ -19,9 +19,10 @@ import geopandas as gpd
 import pytest
 
 from gandovel import Refused
-from gandovel.many import run_many, worker
+from gandovel.many import run_many
 from gandovel.many.engines import jobs
 from gandovel.many.tasks import Batch, Program, Task
+from gandovel.many.worker import files
 from many_cities import (
     GAP,
     SIDE,
@@ -237,7 +238,7 @@ def test_results_of_someone_else_are_verified(tmp_path, monkeypatch):
     (folder / "output.txt").write_text("tiling 4 800000000\n")
     (folder / "errors.txt").write_text("")
     for name in ("output", "errors"):
-        facts[name] = worker.told_of(str(folder / f"{name}.txt"))
+        facts[name] = files.told_of(str(folder / f"{name}.txt"))
     (folder / "result.json").write_text(json.dumps({**facts, "status": 0}))
     assert run_many(manifest, out, resume=True).verdicts[1].tiles, "whoever may write there may write results"
     summary = run_many(manifest, out, verify=True)
