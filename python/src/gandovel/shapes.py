@@ -25,6 +25,8 @@ POINT, POLYGON, MULTIPOLYGON = 1, 3, 6
 PLAIN = struct.pack("<BII", 1, POLYGON, 1)
 """How the WKB of a polygon without holes begins; its corners are behind `PLAIN_HEAD` bytes."""
 PLAIN_HEAD = len(PLAIN) + 4
+HEAD, BOXES = 8, (0, 32, 48, 48, 64)
+"""How many bytes a GeoPackage has in front of a WKB: a head, and a box, by the box's kind."""
 PLACE = np.dtype([("order", "u1"), ("kind", "<u4"), ("place", "<f8", 2)])
 """The WKB of a point."""
 
@@ -49,6 +51,11 @@ def shapes_of(blobs: Iterable[Optional[bytes]]) -> List[Any]:
         made: List[Any] = shapely.from_wkb(_objects(blobs)).tolist()
         return made
     return [None if blob is None else shapely.wkb.loads(blob) for blob in blobs]
+
+
+def wkb_in(blob: bytes) -> bytes:
+    """The WKB in a GeoPackage's shape. IndexError where there is none."""
+    return blob[HEAD + BOXES[(blob[3] >> 1) & 7] :]
 
 
 def _objects(items: Iterable[Any]) -> Array:
@@ -91,7 +98,7 @@ def point_wkb(places: Array) -> List[bytes]:
 
 def polygons_of(rings: Sequence[Array]) -> List[Polygon]:
     """A polygon of each ring (k, 2), which is without its first corner again."""
-    return _polygons([[ring] for ring in rings])
+    return _polygons([[ring] for ring in rings]) if TAKES_ARRAYS else shapes_of(rings_wkb(rings))
 
 
 def rings_wkb(rings: Sequence[Array]) -> List[bytes]:
