@@ -19,7 +19,7 @@ from planted import CASES, Counts, case, drawn, projected, reshaped, rounded, wi
 
 LAYERS = 1000 if os.environ.get("GANDOVEL_FULL") else 100
 EACH = -(-LAYERS // len(CASES))
-FILES = ("File Geodatabase", "degrees", "feet", "hundredths of feet", "a curve")
+FILES = ("File Geodatabase", "degrees", "feet", "hundredths of feet", "a curve", "arcs between neighbours")
 
 
 COARSE = ("decimetres", "50 mm")

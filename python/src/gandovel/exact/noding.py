@@ -247,13 +247,14 @@ def put_in(
     return result, told
 
 
-def near_pairs(loops: Loops, points: Array, farthest: float) -> Array:
-    """How far off (mm, measured) points of loops lie from sides that they are beside, up to `farthest`: each pair once.
+def near_pairs(loops: Loops, points: Array, farthest: float, wanted: Array) -> Array:
+    """How far off (mm, measured) wanted points of loops lie from sides that they are beside, up to `farthest`: each pair
+    once.
 
     A side of a polygon of its own is none, nor one that runs where such a side does.
     """
     ends = loops.corners[loops.nexts()]
-    found = touches(points, loops.corners, ends, np.unique(loops.corners), farthest, farthest)
+    found = touches(points, loops.corners, ends, wanted, farthest, farthest)
     loop = np.searchsorted(loops.starts, found[:, 0], side="right") - 1
     same = _same_sides(loops, ends, found)
     owners = np.cumsum(~loops.hole) - 1
