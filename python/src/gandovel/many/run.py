@@ -10,7 +10,7 @@ from typing import Any, Dict, Iterator, List, Optional, Tuple, Union
 
 from ..errors import Refused
 from .asked import Run
-from .engines import ENGINES, Engine, Settings
+from .engines import ENGINES, Engine, Settings, default_engine
 from .engines.slurm import end_earlier_jobs
 from .findings import summary_of
 from .manifest import read_manifest
@@ -22,7 +22,7 @@ from .tasks import Limits, Task, faults_task_of, find_program, task_of
 def run_many(
     manifest: Union[str, Path],
     out: Union[str, Path],
-    engine: str = "parallel",
+    engine: Optional[str] = None,
     *,
     scheduler: Optional[str] = None,
     jobs: Optional[int] = None,
@@ -36,16 +36,17 @@ def run_many(
 ) -> Summary:
     """Asks the program about each city of a manifest, one process a city; results and summary go to the folder `out`.
 
-    `engine` is `parallel`, `slurm` or `dask`; `scheduler` the address of Dask's. At most `jobs` tasks run at once, each
-    by `threads` threads, for `timeout` seconds and with `memory_mb` MiB at most. A task without a result is tried again
-    up to `retries` times. With `resume`, what has a result of the same program, question and checksums is not done
-    again; with `verify` it is done again, and results that said something else before are named (`Summary.differing`).
-    `shown` shows progress on standard error.
+    `engine` is `parallel`, `processes`, `slurm` or `dask`, by default GNU parallel where it is there, else processes;
+    `scheduler` is the address of Dask's. At most `jobs` tasks run at once, each by `threads` threads, for `timeout`
+    seconds and with `memory_mb` MiB at most. A task without a result is tried again up to `retries` times. With
+    `resume`, what has a result of the same program, question and checksums is not done again; with `verify` it is done
+    again, and results that said something else before are named (`Summary.differing`). `shown` shows progress on
+    standard error.
 
     A city that gets no result has the verdict `none`, with a code that says why. Refused P1, P2, P3, P15 (the
     manifest), P14 and P16 (the folder), T1 (the program), T7 (the engine).
     """
-    begun = time.monotonic()
+    begun, engine = time.monotonic(), engine or default_engine()
     rows = read_manifest(manifest)
     program = find_program()
     limits = Limits(timeout, None if memory_mb is None else memory_mb * 1024)

@@ -55,7 +55,7 @@ def checked(path: str) -> Optional[Checked]:
 
 
 def read_input(path: str, by_bytes: bool = True) -> Input:
-    """A file as it is, with its checksum; without `by_bytes` one that is old has none. OSError where it can't be read."""
+    """A file as it is, with its checksum; without `by_bytes` an old one has none. OSError where it can't be read."""
     digest, size = hashlib.sha256(), 0
     try:
         with open(path, "rb", buffering=0) as file:
