@@ -60,7 +60,7 @@ def read_layer(source: Union[str, "os.PathLike[str]"], role: str, layer: Optiona
             types = dict(opened.schema["properties"])
         frame = read_large(path, name)
         if frame is None:
-            frame = gpd.read_file(path, layer=name, **ANY_DRIVER)
+            frame = gpd.read_file(path, layer=name, engine="fiona", **ANY_DRIVER)
     except Refused:
         raise
     except fiona.errors.UnsupportedGeometryTypeError:

@@ -71,9 +71,9 @@ def _run_beside(left: Deque[Dict[str, Any]], status: int) -> int:
                 left.popleft()
     except BrokenProcessPool:
         task, status = left.popleft(), STATUS["T4"]
-        signalled = -beside[0].exitcode
-        if signalled > 0 and not asked_to_stop and not is_done(task):
-            tell(task, Failed("T4", f"the task was killed by signal {signalled}"))
+        code = beside[0].exitcode if beside else None  # above 0 where it ended by itself, and has told why
+        if (code or 0) <= 0 and not asked_to_stop and not is_done(task):
+            tell(task, Failed("T4", f"the task was killed by signal {-code}" if code else "the task was killed"))
     return status
 
 
