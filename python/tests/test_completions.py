@@ -51,8 +51,8 @@ def said_of(terminal, text, end):
     return said.decode(errors="replace").replace("\r", "")
 
 
-WORDS = 'parcel_tool() { printf "<%s>" "$@"; echo; }'
-"""A program that prints the words it is given."""
+WORDS = "; ".join(it + '() { printf "<%s>" "$@"; echo; }' for it in ("parcel_tool", "gandovel"))
+"""Programs that print the words they are given."""
 
 
 def given(shown):
@@ -60,7 +60,7 @@ def given(shown):
     return [it.rstrip("/") for it in re.findall(r"<([^<>]*)>", re.search(r"^(?:<[^<>]*>)+$", shown, re.M)[0])]
 
 
-BASH = (["bash", "--norc", "-i"], f"{WORDS}; source {PACKAGING}/parcel_tool.bash")
+BASH = (["bash", "--norc", "-i"], f"{WORDS}; source {PACKAGING}/parcel_tool.bash; source {PACKAGING}/gandovel.bash")
 ZSH = (["zsh", "-f", "-i"], f"fpath=({PACKAGING} $fpath); autoload -U compinit; compinit -D; {WORDS}")
 
 
@@ -75,6 +75,11 @@ ZSH = (["zsh", "-f", "-i"], f"fpath=({PACKAGING} $fpath); autoload -U compinit; 
         ("parcel_tool check city.shp --wor", ["check", "city.shp", "--workers"]),
         ("parcel_tool check --clerk no", ["check", "--clerk", "notes.txt"]),
         ("parcel_tool session --zones ci", ["session", "--zones", "city.shp"]),
+        ("gandovel expl", ["explain"]),
+        ("gandovel check no", ["check", "notes.txt"]),
+        ("gandovel apply my\\ p", ["apply", "my parcels.shp"]),
+        ("gandovel mend city.shp --to bor", ["mend", "city.shp", "--to", "border"]),
+        ("gandovel journal --rep", ["journal", "--repair"]),
     ],
 )
 def test_completes(argv, setup, line, words, folder):
@@ -91,12 +96,17 @@ def test_completes(argv, setup, line, words, folder):
         ("parcel_tool check city.shp my", {"my parcels.shp"}),
         ("parcel_tool check --clerk no", {"notes.txt"}),
         ("parcel_tool export --o", {"--out"}),
+        ("gandovel expl", {"explain"}),
+        ("gandovel check no", {"notes.txt"}),
+        ("gandovel mend --to ", {"border", "larger", "older", "none"}),
+        ("gandovel journal --rep", {"--repair"}),
+        ("gandovel report --known no", {"notes.txt"}),
     ],
 )
 def test_completes_in_fish(line, words, folder):
     if not shutil.which("fish"):
         pytest.skip("no fish")
-    asked = f"source {PACKAGING}/parcel_tool.fish; complete -C {line!r}"
+    asked = f"source {PACKAGING}/{line.split()[0]}.fish; complete -C {line!r}"
     said = subprocess.run(
         ["fish", "--no-config", "-c", asked], cwd=folder, check=True, stdout=subprocess.PIPE, text=True
     )

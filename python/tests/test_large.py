@@ -320,7 +320,7 @@ def test_outlines_that_are_none_of_their_rings(monkeypatch, change):
     broken_district(monkeypatch, change)
     with cut_by(Cutting(10)), pytest.raises(Open, match="T11 .*parcels cross districts") as caught:
         check_island(island_of())
-    assert caught.value.status == 2
+    assert caught.value.status == 3
 
 
 def test_a_run_in_another_outline_is_found(monkeypatch):

@@ -226,7 +226,7 @@ def test_a_program_that_is_none(tmp_path, monkeypatch, how):
 def test_a_verdict_that_does_not_fit_the_layer(tmp_path, monkeypatch):
     program(tmp_path, monkeypatch, 'case "$city" in */c1) echo "tiling 30 800000000"; exit;; esac')
     summary = run_many(write_cities(tmp_path, 2), tmp_path / "out", retries=0)
-    assert verdicts(summary) == {"c0": ("tiles", ""), "c1": ("none", "T2")} and summary.status == 2
+    assert verdicts(summary) == {"c0": ("tiles", ""), "c1": ("none", "T2")} and summary.status == 3
     assert summary.without[0].text == "the program told a verdict of 30 parcels, and the layer has 4"
 
 
@@ -271,7 +271,7 @@ def test_a_disk_that_is_full_for_a_while(tmp_path, monkeypatch, small_disk):
     manifest, out = write_cities(tmp_path, 3, [2]), small_disk / "out"
     summary = run_many(manifest, out, jobs=1, retries=0)
     assert verdicts(summary) == {"c0": ("tiles", ""), "c1": ("none", "S2"), "c2": ("refused", "H2")}
-    assert names_in(out / "cities") == {"c0", "c2"} and summary.status == 2 and summary.unwritten is None
+    assert names_in(out / "cities") == {"c0", "c2"} and summary.status == 3 and summary.unwritten is None
 
 
 def test_a_disk_that_stays_full(tmp_path, monkeypatch, small_disk):
@@ -279,7 +279,7 @@ def test_a_disk_that_stays_full(tmp_path, monkeypatch, small_disk):
     program(tmp_path, monkeypatch, f'case "$city" in */c2) cat /dev/zero > "{small_disk}/filled" 2> /dev/null;; esac')
     manifest, words = write_cities(tmp_path, 3), ["manifest.csv", "--out", small_disk / "out", "--jobs", "1"]
     ended = command(tmp_path, *words, "--retries", "0")
-    assert (ended.returncode, ended.stdout[:19]) == (2, "3 cities: 2 tile, 1")
+    assert (ended.returncode, ended.stdout[:19]) == (3, "3 cities: 2 tile, 1")
     assert "error: P14" in ended.stderr and "No space left" in ended.stderr and "Traceback" not in ended.stderr
     assert not (small_disk / "out/summary.csv").exists()
     (small_disk / "filled").unlink()
@@ -349,7 +349,7 @@ def test_two_runs_at_once(run, tmp_path, monkeypatch):
     try:
         until(lambda: calls(tmp_path))
         other = command(tmp_path, *words_of(run, "--resume"))
-        assert other.returncode == 1 and other.stdout == ""
+        assert other.returncode == 4 and other.stdout == ""
         assert (
             other.stderr.strip()
             .splitlines()[-1]
@@ -393,7 +393,7 @@ def test_a_command_that_is_stopped_leaves_nothing_running(run, tmp_path, monkeyp
     until(lambda: len(calls(tmp_path)) > 1 and have_results(tmp_path / "out", 1))
     one.send_signal(number)
     out, errors = one.communicate(timeout=300)
-    assert (one.returncode, out) == (1, "") and errors.strip().splitlines()[-1].startswith("error: T8 "), errors
+    assert (one.returncode, out) == (3, "") and errors.strip().splitlines()[-1].startswith("error: T8 "), errors
     until(lambda: not processes_of(tmp_path))
     assert "c0" in names_in(tmp_path / "out/cities") and not have_results(tmp_path / "out", 2)
 
@@ -405,7 +405,7 @@ def test_the_command_says_which_cities_have_no_verdict(run, tmp_path, monkeypatc
     assert ended.stdout == (
         f"3 cities: 1 tile, 1 refused (H2 1), 1 without a verdict (T4 1)\n1 gap: {tmp_path}/out/faults.gpkg\n"
     )
-    assert ended.returncode == 2
+    assert ended.returncode == 3
     assert ended.stderr.strip().splitlines()[-2:] == [
         "c1: T4 the program was killed by signal 9",
         "error: T9 1 of 3 cities have no verdict",
@@ -455,7 +455,7 @@ def test_a_scheduler_of_dask_that_is_killed(tmp_path, monkeypatch):
             until(lambda: have_results(tmp_path / "out", 1) and len(calls(tmp_path)) > 1, 400)
             scheduler.kill()
             out, errors = one.communicate(timeout=300)
-    assert (one.returncode, out) == (2, "3 cities: 1 tile, 2 without a verdict (T7 2)\n"), errors
+    assert (one.returncode, out) == (3, "3 cities: 1 tile, 2 without a verdict (T7 2)\n"), errors
     assert errors.splitlines()[-1] == "error: T9 2 of 3 cities have no verdict" and "Traceback" not in errors, errors
     assert errors.count(": T7 Dask: the scheduler went away") == 2
     until(lambda: not processes_of(tmp_path / "in"))

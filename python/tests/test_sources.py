@@ -164,9 +164,9 @@ def test_a_map_of_what_is_no_report(tmp_path):
     for name in ("p.gpkg", "text.gpkg", "none.gpkg"):
         ended = command("map", name, "--out", "m.html", cwd=tmp_path)
         (line,) = ended.stderr.splitlines()
-        assert ended.returncode == 1 and line.startswith("error: P1 ") and not (tmp_path / "m.html").exists()
+        assert ended.returncode == 4 and line.startswith("error: P1 ") and not (tmp_path / "m.html").exists()
     ended = command("map", "p.gpkg", "--out", "p.gpkg", cwd=tmp_path)
-    assert ended.returncode == 1 and "P14 p.gpkg is read, and would be written over" in ended.stderr
+    assert ended.returncode == 4 and "P14 p.gpkg is read, and would be written over" in ended.stderr
 
 
 def test_the_verdict_says_whence_the_city_is():
@@ -301,7 +301,7 @@ def test_many_rows_are_read_as_few_are(tmp_path, monkeypatch):
 def test_a_report_is_a_geopackage(tmp_path, name):
     two().to_file(tmp_path / "p.gpkg", driver="GPKG")
     ended = command("report", "p.gpkg", "--out", name, cwd=tmp_path)
-    assert ended.returncode == 1 and "error: P14" in ended.stderr and not (tmp_path / name).exists()
+    assert ended.returncode == 4 and "error: P14" in ended.stderr and not (tmp_path / name).exists()
     with pytest.raises(gv.Refused, match="P14"):
         gv.report(gv.prepare(two())).save(tmp_path / name)
 

@@ -198,8 +198,29 @@ class Chain:
 def read_journal(path: PathLike) -> Journal:
     """Reads the journal at a path, and checks that each record stands as it was written.
 
-    What a cut may leave at the end is counted as `torn`; a running session may be writing it. Raises
-    `JournalRefused`: S1 where the file can't be read, "no journal", or "changed" with the record's first line.
+    Parameters
+    ----------
+    path : path
+        The journal, of a session that may be running.
+
+    Returns
+    -------
+    Journal
+        Its layer and records (edits in ids and mm), and as `torn` how many bytes stand at its end that a cut may leave.
+
+    Raises
+    ------
+    JournalRefused
+        S1 where the file can't be read, "no journal", or "changed" with the record's first line.
+
+    Examples
+    --------
+    >>> import gandovel, pathlib, tempfile
+    >>> with tempfile.TemporaryDirectory() as folder:
+    ...     path = pathlib.Path(folder, "journal")
+    ...     _ = path.write_text(f"# gandovel journal 1 mm {64 * '0'}\\n")
+    ...     gandovel.read_journal(path).records
+    ()
     """
     try:
         with open(path, "rb") as file:

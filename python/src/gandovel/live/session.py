@@ -254,9 +254,9 @@ class Session(Calls):
         self._test_running()
         super()._put(line, is_report)
 
-    def _answered(self) -> List[str]:
+    def _answered(self, behind: int = 0) -> List[str]:
         try:
-            return super()._answered()
+            return super()._answered(behind)
         except ProgramEnded:
             raise self._ended() from None
 

@@ -57,7 +57,7 @@ def _positive(word: str) -> int:
 
 
 def run_command(options: argparse.Namespace) -> int:
-    """Runs the command; its status: 1 where a city does not tile, 2 where one is open or has no verdict.
+    """Runs the command; its status: 1 where a city does not tile, 3 where one is open or has no verdict.
 
     Refused T8 where it is stopped.
     """

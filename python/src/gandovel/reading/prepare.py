@@ -156,22 +156,49 @@ def prepare(
     neighbours: Optional[Source] = None,
     neighbours_layer: Optional[str] = None,
 ) -> Prepared:
-    """Layers of a GIS in whole millimetres.
+    """Layers of a GIS in whole millimetres, as the program reads them.
 
-    `neighbours` are the cities beside it (column `name`), of which parcels are to cover nothing.
+    Parameters
+    ----------
+    parcels, zones, city, neighbours : GeoDataFrame, GeoSeries or path
+        Polygons and multipolygons in one projection. `neighbours` are the cities beside it (column `name`), of which
+        parcels are to cover nothing. A path is whatever GDAL opens.
+    number : str
+        The column of the parcels' own numbers, no two the same, or `ROW`.
+    zone : str, optional
+        That of the zones' names, which may stand for several rows: by default `zone`, else `number`, else the row.
+    frame : bool
+        A rectangle around all is the city, with a parcel and a zone `OUT`, and zones are uncut. Else the city is
+        `city`, or what the parcels cover, its holes filled, one for each connected part, and zones are cut to it.
+    max_move, touch, grid : float
+        In mm: how far a corner is moved to the grid at most; how far off a border one touches it (by default 1.42 times
+        the grid; 0 compares exactly); the layer's own grid, which is found.
+    unit : str or float, optional
+        m, mm, .. or how many metres it is, where the projection does not say it.
+    skip_invalid : bool
+        Goes on without polygons that are invalid.
+    narrow : float
+        In m: what is open to the outside and narrower is said.
+    layer, zones_layer, city_layer, neighbours_layer : str, optional
+        The layer, where its source has several.
 
-    `parcels`, `zones` and `city` are GeoDataFrames, GeoSeries, or what GDAL opens (`layer`, `zones_layer`, `city_layer`
-    name one of several layers), in one projection: polygons and multipolygons. `number` is the column of the parcels'
-    own numbers, no two the same, or `ROW`; `zone` that of the zones' names (by default `zone`, else `number`, else the
-    row), which may stand for several rows. Without `city` it is what the parcels cover, its holes filled, one for each
-    connected part; what is open to the outside and narrower than `narrow` (m) is told. Zones are cut to the city, or
-    with `frame` a rectangle around all is the city, and a parcel and a zone `OUT` are added.
+    Returns
+    -------
+    Prepared
+        The register; what was changed is in its `changes`, what is made no use of in `lost`.
 
-    In mm: a corner is moved to the grid at most `max_move`; one that is `touch` off a border or less touches it, by
-    default 1.42 times the layer's own `grid`, which is found; 0 compares exactly. `unit` is m, mm, .. or metres, where
-    the projection does not say it. `skip_invalid` goes on without polygons that are invalid.
+    Raises
+    ------
+    Refused
+        P1 .. P14, by number and place; of what is invalid all at once.
 
-    Refused P1 .. P14, by number and place; of what is invalid all at once.
+    Examples
+    --------
+    >>> import geopandas, gandovel
+    >>> from shapely.geometry import box
+    >>> plots = geopandas.GeoDataFrame({"parcel_no": [7]}, geometry=[box(0, 0, 10, 10)], crs=25832)
+    >>> gandovel.prepare(plots).numbers
+    ['7']
     """
     test_distances(grid=grid, touch=touch, max_move=max_move, narrow=narrow * 1000.0)
     progress = progress or Progress()

@@ -385,7 +385,33 @@ def _put_in_place(aside: Path, work: Path) -> None:
 
 
 def load(work: Union[str, Path]) -> Prepared:
-    """What `Prepared.save` wrote. Refused P1 where the folder is no such one, or is torn."""
+    """What `Prepared.save` wrote.
+
+    Parameters
+    ----------
+    work : path
+        The folder.
+
+    Returns
+    -------
+    Prepared
+        Of its changes those alone that were made to touch.
+
+    Raises
+    ------
+    Refused
+        P1: the folder is no such one, or is torn.
+
+    Examples
+    --------
+    >>> import geopandas, gandovel, tempfile
+    >>> from shapely.geometry import box
+    >>> plots = geopandas.GeoDataFrame({"parcel_no": [7]}, geometry=[box(0, 0, 10, 10)], crs=25832)
+    >>> with tempfile.TemporaryDirectory() as folder:
+    ...     gandovel.prepare(plots).save(folder)
+    ...     gandovel.load(folder).numbers
+    ['7']
+    """
     work = Path(work)
     try:
         facts = json.loads((work / "prepared.json").read_text())

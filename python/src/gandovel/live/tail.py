@@ -6,7 +6,7 @@ from pathlib import Path
 from typing import List
 
 from ..errors import BadAnswer, JournalRefused
-from ..live.journals import Chain, JournalRecord
+from .journals import Chain, JournalRecord
 
 PART = 1 << 20
 """How many bytes are read at once."""
