@@ -20,6 +20,8 @@ def said(tmp_path):
     """Runs a command in a folder with the sources, and a virtual environment on PATH: what it prints."""
     sources = shutil.ignore_patterns("tests", ".*", "__pycache__")
     shutil.copytree(PACKAGE, tmp_path / "python", ignore=sources)
+    shutil.copy(PACKAGE.parent / ".gitignore", tmp_path)  # as in the repository, whose folders `out` are left out
+    (tmp_path / ".git").mkdir()
     subprocess.run(["/usr/bin/python3", "-m", "venv", "--system-site-packages", tmp_path / "venv"], check=True)
     plain = {"PATH": f"{tmp_path}/venv/bin:/usr/bin:/bin", "HOME": str(tmp_path), "PIP_NO_INDEX": "1"}
 
