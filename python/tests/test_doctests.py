@@ -2,13 +2,17 @@
 from __future__ import annotations
 
 import doctest
+import importlib
 import inspect
-import sys
 
 import pytest
 
 import gandovel as gv
 
+MODULES = sorted(
+    {getattr(gv, name).__module__ for name in gv.__all__ if ">>> " in (inspect.getdoc(getattr(gv, name)) or "")}
+    | {"gandovel.program.edit_lines"}
+)
 FUNCTIONS = [name for name in gv.__all__ if inspect.isfunction(getattr(gv, name))]
 
 
@@ -20,13 +24,18 @@ def test_each_public_name_is_described():
 
 
 @pytest.mark.parametrize("name", FUNCTIONS)
-def test_the_example_runs(name):
+def test_each_function_is_described_in_numpydoc_form(name):
     function = getattr(gv, name)
     said = inspect.getdoc(function)
     for heading in ("Returns\n-------", "Raises\n------", "Examples\n--------"):
         assert heading in said, heading
     assert "Parameters\n----------" in said or name in ("area", "overlay")
-    module = vars(sys.modules[function.__module__])
-    (test,) = doctest.DocTestFinder(recurse=False).find(function, name, globs=dict(module))
+    finder = doctest.DocTestFinder(recurse=False)
+    (test,) = finder.find(function, name, globs={})
     assert test.examples
-    assert doctest.DocTestRunner().run(test).failed == 0
+
+
+@pytest.mark.parametrize("name", MODULES)
+def test_the_examples_run(name):
+    ended = doctest.testmod(importlib.import_module(name))
+    assert ended.failed == 0 and ended.attempted > 0

@@ -176,7 +176,7 @@ def test_a_word_that_moves_a_terminal(tmp_path, capsys):
         ("# 1 1 2026-01-01T00:00:00Z ", "straighten -0 1"),
     ):
         path.write_bytes(written((stamp, edit)))
-        assert told(capsys, path)[0] == 1, (stamp, edit)
+        assert told(capsys, path)[0] == 4, (stamp, edit)
 
 
 @settings(deadline=None, suppress_health_check=[HealthCheck.too_slow])

@@ -93,6 +93,26 @@ def test_what_is_no_journal(text):
             repair(other)
 
 
+@pytest.mark.parametrize("seed", range(60 if FULL else 15))
+def test_whatever_is_done_to_it_a_beginning_of_the_truth_is_kept(text, seed):
+    """Bytes overwritten, cut out, doubled or put in, several times: what is made is the journal up to some entry."""
+    drawn, damaged = random.Random(seed), bytearray(text)
+    for _ in range(drawn.randrange(1, 4)):
+        at, size = drawn.randrange(200, len(damaged)), drawn.randrange(1, 200)
+        part = bytes(damaged[at : at + size])
+        other = [b"", part + part, bytes(len(part)), drawn.randbytes(len(part)), b"\n" * 3 + part, part[::-1]]
+        damaged[at : at + size] = drawn.choice(other)
+    made = repair(bytes(damaged))
+    parts = parts_of(text)
+    assert made.text == b"".join(parts[: made.entries + 1]) and len(journal_of(made.text).records) == made.entries
+    assert made.entries == 5 or made.damages
+
+
+def test_a_sealed_record_of_another_form_is_not_taken(halves):
+    made = repair(halves.text_of("merge 1 2", "merge 03 4"))
+    assert made.entries == 1 and not made.is_whole
+
+
 def test_long_records_are_not_searched(text, monkeypatch):
     monkeypatch.setattr(journal_repair, "MOST_TRIED", 50)
     parts = parts_of(text)

@@ -1,7 +1,10 @@
 """The command `gandovel`: edits by own numbers, codes in words, one status for each way that it ends."""
 from __future__ import annotations
 
+import os
 import re
+import subprocess
+import sys
 from pathlib import Path
 
 import geopandas as gpd
@@ -10,8 +13,11 @@ import pytest
 from shapely.geometry import box
 
 import gandovel as gv
+from gandovel.cli import parser
 from gandovel.codes import OWN
 from gandovel.program.edit_lines import edits_of
+from gandovel.reading.options import defaults
+from gandovel.reading.register import Options
 from test_register import command
 
 CRS = 25832
@@ -151,3 +157,29 @@ def test_each_code_that_is_raised_has_words():
         raised |= set(re.findall(r'"([PTW][0-9]{1,2})"', path.read_text()))
     assert raised <= set(OWN), raised - set(OWN)
     assert all(words.meaning and words.remedy for words in OWN.values())
+
+
+def test_options_of_prepare_stand_once():
+    """What `prepare` takes is what each function takes, and the command line has, with the same defaults."""
+    assert set(Options.__annotations__) == set(defaults()) - {"zones"}
+    for name in ("check", "report", "overlay", "mend", "apply", "locate", "prepare"):
+        words = {"apply": ["x", "y", "--out", "z"], "locate": ["x", "--at", "1", "1"], "check": ["x"], "overlay": ["x"]}
+        told = vars(parser().parse_args([name, *words.get(name, ["x", "--out", "z"])]))
+        assert {option: told[option] for option in defaults()} == defaults(), name
+
+
+def test_edits_from_standard_input(folder):
+    words = [sys.executable, "-m", "gandovel", "apply", "tiles.gpkg", "-", "--number", "nr", "--out", "new.gpkg"]
+    env = {**os.environ, "PYTHONPATH": str(SOURCES.parent)}
+    ended = subprocess.run(words, cwd=folder, env=env, input="merge 7 '1 / 3'\n", capture_output=True, text=True)
+    assert ended.stdout == "line 1 ok 1\n2 parcels, 1 of them from edits\n", ended.stderr
+
+
+def test_the_command_line_is_read_without_geopandas():
+    """It takes a second, of which `--help`, `many` and a shell's completion have no use."""
+    words = (
+        "import sys, gandovel.cli as cli; cli.parser(); print({'pandas', 'geopandas', 'shapely'} & set(sys.modules))"
+    )
+    env = {**os.environ, "PYTHONPATH": str(SOURCES.parent)}
+    ended = subprocess.run([sys.executable, "-c", words], env=env, capture_output=True, text=True, check=True)
+    assert ended.stdout == "set()\n"

@@ -233,7 +233,47 @@ def test_units_of_the_layer(tmp_path):
     assert repr(register.session.notes) == "[]"
 
 
+def test_the_area_outside_is_no_parcel():
+    """With `frame` the program has one there."""
+    with gv.open(plots(), frame=True) as register:
+        found = register.locate([(5, 5), (-0.5, 5), (0, 5), (10, 5)])
+        assert found["where"].tolist() == ["inside", "outside", "edge", "edge"]
+        assert found.numbers.tolist() == ["7", "", "7", "7,3"] and found.ids.tolist() == ["1", "", "1", "1,2"]
+        assert register.parcels.parcel_no.tolist() == [7, 3, 2]
+        register.edit(gv.Merge(7, 3))
+        assert register.parcels.came_from.tolist() == ["7,3", "2"]
+
+
 def test_the_accessor_opens(tmp_path):
     with plots().gandovel.open(tmp_path / "journal") as register:
         assert repr(register).startswith("<OpenRegister: 3 parcels as given, 0 entries")
         assert register.close() == 0
+
+
+def test_a_register_with_holes_and_parts(whole, tmp_path):
+    """202 parcels of 226 records: each is one row, with all its ids, until an edit changes it."""
+    with gv.open(whole, tmp_path / "journal", timeout=120) as register:
+        now, given = register.parcels, gv.area(whole)
+        assert now.area2_mm2.tolist() == given.area2_mm2.tolist() and now.index.equals(given.index)
+        assert sum(len(text.split(",")) for text in now.ids) == 226 and (now.edited == 0).all()
+        road = now[now.ids.str.contains(",")].iloc[0]
+        with pytest.raises(gv.Refused, match=f"P13 parcel {road.parcel_no}: it has several records: name one of Id"):
+            register.edit(gv.Merge(road.parcel_no, now.parcel_no.iloc[-1]))
+        found = register.locate(now.representative_point())
+        assert found.numbers.tolist() == now.parcel_no.astype(str).tolist()
+
+
+def test_the_example_of_the_documents(tmp_path):
+    """That of docs/python.md, on plots whose numbers are those of the page."""
+    path = [(25, 0), (25, 10)]
+    shapes = [box(at, 0, at + 10, 10) for at in (0, 10, 20, 30)]
+    prepared = gv.prepare(gpd.GeoDataFrame({"parcel_no": ["1/1", "1/2", "3", "4"]}, geometry=shapes, crs=CRS))
+    with gv.open(prepared, tmp_path / "register.txt") as register:
+        register.edit(gv.Merge("1/1", "1/2"), who="anna, deed 17")
+        with register.transaction("bert") as edits:
+            for y in (0, 10):
+                edits.edit(gv.Insert((20, y), (30, y), (25, y)))
+            first, second = edits.edit(gv.Split("3", path))
+            edits.edit(gv.Merge(second, "4"))
+        assert register.entries.who.tolist() == ["anna", *["bert"] * 4]
+        assert register.parcels.came_from.tolist() == ["1/1,1/2", "3", "3,4"]

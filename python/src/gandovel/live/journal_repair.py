@@ -10,7 +10,7 @@ from ..errors import JournalRefused
 from .journals import Chain
 
 MOST_TRIED = 2_048
-"""Bytes of a record in which each change of one byte is tried: a million digests, two seconds or so."""
+"""Bytes of a record in which each change of one byte is tried: some million digests, seconds."""
 _HEADER = re.compile(rb"# gandovel journal 1 mm ([0-9a-f]{64})")
 _STAMP = re.compile(rb"# ([1-9][0-9]{0,18}) [0-9]+ \d{4}-\d\d-\d\dT\d\d:\d\d:\d\dZ (?:.+ )?([0-9a-f]{64})", re.DOTALL)
 
@@ -135,7 +135,15 @@ def _sealed(stamp: bytes, edit: bytes, before: str, number: int) -> Optional[Tup
     if not stamp.startswith(b"# %d " % number):
         return None
     digest = _digest_of(before, stamp, edit)
-    return (stamp + b"\n" + edit + b"\n", digest) if stamp[-64:] == digest.encode() else None
+    if stamp[-64:] != digest.encode():
+        return None
+    chain = Chain()
+    chain.count, chain.digest = number - 1, before
+    try:
+        chain.record(stamp, edit)
+    except JournalRefused:  # the digest is right, and the form is none of a session's
+        return None
+    return stamp + b"\n" + edit + b"\n", digest
 
 
 def _next(data: bytes, at: int, before: str, number: int) -> Optional[_Found]:

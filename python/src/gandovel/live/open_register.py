@@ -26,9 +26,8 @@ from ..reading.prepared import OUT_ROW, Prepared
 from ..reading.register import Options, Register, register_of
 from .answers import Accepted
 from .desk_calls import Calls
-from .journals import Change, Journal, JournalRecord, changes_of
 from .session import Session
-from .tail import Tail
+from .tail import History
 from .transaction import Transaction
 
 OWN_DESK = "own"
@@ -144,7 +143,7 @@ class OpenRegister:
             raise
         try:
             self._desk: Calls = self.session.desk(OWN_DESK) if desks else self.session
-            self._tail = Tail(Path(self.journal))
+            self._past = History(Path(self.journal), len(self._rows))
         except BaseException:
             self.session.terminate()
             self._folder.cleanup()
@@ -171,9 +170,8 @@ class OpenRegister:
         return self._parcels[1].copy()
 
     def _parcels_after(self, count: int) -> gpd.GeoDataFrame:
-        self._replayed([record.edit for record in self._records(count)])
-        last = len(self._rows) + sum(len(change.new) for change in self._changes(count))
-        ids = sorted(set(range(1, last + 1)) - set(self._taken(count)))
+        self._replayed([record.edit for record in self._past.records(count)])
+        ids = self._past.ids(count)
         frame = back(self.prepared, read_rings(self._path("new.shp")), self._at, ids)
         doubled = tool.areas(self._path("new.shp"))
         of_ids = {number: doubled[record] for record, number in enumerate(ids, 1)}
@@ -194,8 +192,8 @@ class OpenRegister:
             `who=` said it), kind (`merge` ..), numbers (text, comma separated: own numbers that it took out), out and
             new (text: ids that it took out and brought), edit (the journal's line: ids, mm).
         """
-        records = self._records(self.count())
-        changes = self._changes(len(records))
+        records = self._past.records(self.count())
+        changes = self._past.changes[: len(records)]
         columns = {
             "time": pd.Series([record.time for record in records], dtype="datetime64[ns, UTC]"),
             "clerk": [record.clerk for record in records],
@@ -235,13 +233,15 @@ class OpenRegister:
         given, here, note = points_of(points, self.prepared)
         whole, moved = on_grid(here, self.prepared)
         places = self._desk.locate_all(whole.tolist())
-        rows = [[self._row(number) for number in place.ids] for place in places]
-        inside = [of[0] if place.where == "inside" else -1 for place, of in zip(places, rows)]
-        own = keys_at(self.prepared.parcel_key, inside)
+        ids = [[number for number in place.ids if not self._is_outside(number)] for place in places]
+        where = [place.where if of else "outside" for place, of in zip(places, ids)]
+        own = keys_at(
+            self.prepared.parcel_key, [self._row(of[0]) if at == "inside" else -1 for at, of in zip(where, ids)]
+        )
         values: Dict[str, Any] = {
-            "where": [place.where for place in places],
-            "numbers": [",".join(self._numbers(place.ids)) for place in places],
-            "ids": [",".join(map(str, place.ids)) for place in places],
+            "where": where,
+            "numbers": [",".join(self._numbers(of)) for of in ids],
+            "ids": [",".join(map(str, of)) for of in ids],
             "entries": [place.entries for place in places],
             "moved_mm": moved,
             "moved_how": note,
@@ -292,11 +292,12 @@ class OpenRegister:
 
         The program makes the entries and these edits on the layer as it was, apart from the session.
         """
-        first = [len(self._rows) + 1 + sum(len(change.new) for change in self._changes(count))]
+        done = [record.edit for record in self._past.records(count)]
+        first = [self._past.last[count] + 1]
         for edit in edits:
             first.append(first[-1] + BRINGS[type(edit)])
         lines = [self._line(edit, lambda new: Id(first[new.edit] + new.which)) for edit in edits]
-        return self._replayed([*(record.edit for record in self._records(count)), *lines])[count:]
+        return self._replayed([*done, *lines])[count:]
 
     def path(self, name: str) -> str:
         """What `gandovel.Desk.at` is given for the desk of another clerk with this name. ValueError where none has
@@ -322,25 +323,11 @@ class OpenRegister:
             self._forget()
 
     def _forget(self) -> None:
-        self._tail.close()
+        self._past.close()
         self._folder.cleanup()
 
     def _path(self, name: str) -> str:
         return os.path.join(self._folder.name, name)
-
-    def _records(self, count: int) -> List[JournalRecord]:
-        """The first `count` entries, which the session has answered or shown."""
-        self._tail.read_to(count)
-        return self._tail.records[:count]
-
-    def _changes(self, count: int) -> List[Change]:
-        """What each of the first `count` entries took out and brought."""
-        return changes_of(Journal("", tuple(self._records(count)), 0, ""), len(self._rows))
-
-    def _taken(self, count: int) -> Dict[int, int]:
-        """The ids that entries took out, each with the number of its entry."""
-        changes = enumerate(self._changes(count), 1)
-        return {int(number): entry for entry, change in changes for number in change.out}
 
     def _replayed(self, lines: Sequence[str]) -> List[str]:
         """The program's answers (`ok ..`, `refused ..`) to edits of the layer as it was; the parcels are `new.shp`."""
@@ -358,12 +345,16 @@ class OpenRegister:
         """The id of a parcel. Refused P13 where a number is none, or of a parcel that an entry took out."""
         number = id_of(self.prepared, parcel, self._at)
         if not isinstance(parcel, Id):
-            count = self.count()
-            entry = self._taken(count).get(number)
+            self._past.read_to(self.count())
+            entry = self._past.taken.get(number)
             if entry is not None:
-                new = ", ".join(f"Id({it})" for it in self._changes(count)[entry - 1].new)
+                new = ", ".join(f"Id({it})" for it in self._past.changes[entry - 1].new)
                 raise Refused("P13", f"entry {entry} took it out, and brought {new}", "parcels", number=str(parcel))
         return number
+
+    def _is_outside(self, number: int) -> bool:
+        """Whether an id is that of the area outside, which `frame` adds."""
+        return number <= len(self._rows) and self._rows[number - 1] == OUT_ROW
 
     def _row(self, number: int) -> int:
         """The row of the parcels (from 0) that has an id; -1 for the area outside, and what an edit brought."""

@@ -26,6 +26,29 @@ class Transaction:
 
     Where the block is left by an exception, no edit is tried or made.
 
+    Raises
+    ------
+    RefusedEdit
+        Where the block ends: edits that are refused as they are tried; `all` has each, and none is made.
+    PartlyMade
+        Some were made: its `made`, `unsure` and `left` say which.
+    Refused
+        P13: a number that is not there, or that an edit took out; none is made.
+
+    Examples
+    --------
+    >>> import geopandas, gandovel
+    >>> from shapely.geometry import box
+    >>> plots = geopandas.GeoDataFrame(
+    ...     {"parcel_no": [7, 8, 9]}, geometry=[box(at, 0, at + 10, 10) for at in (0, 10, 20)], crs=25832
+    ... )
+    >>> with gandovel.open(plots) as register:
+    ...     with register.transaction("anna, deed 17") as edits:
+    ...         (both,) = edits.edit(gandovel.Merge(7, 8))
+    ...         _ = edits.edit(gandovel.Merge(both, 9))
+    ...     register.parcels.came_from.tolist()
+    ['7,8,9']
+
     Attributes
     ----------
     made : list of Accepted

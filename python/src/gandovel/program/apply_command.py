@@ -5,11 +5,13 @@ import argparse
 import sys
 import warnings
 from pathlib import Path
-from typing import Any, List
+from typing import TYPE_CHECKING, Any, List
 
 from ..errors import Refused, RefusedEdit, SeveralRefusedEdits
 from ..reading.command_options import asked_about, prepared_of, preparing, read_of, say_lost
-from .edit_lines import Line, edits_of
+
+if TYPE_CHECKING:
+    from .edit_lines import Line
 
 
 def add_apply(commands: Any) -> None:
@@ -39,6 +41,7 @@ def run_apply(options: argparse.Namespace) -> int:
     from ..out.gpkg import test_name, write_layers
     from ..progress import Progress
     from .applied import apply
+    from .edit_lines import edits_of
 
     test_name(options.out, [*read_of(options), options.edits])
     lines = edits_of(_text_of(options.edits))
@@ -68,7 +71,7 @@ def _text_of(path: str) -> str:
         raise Refused("P1", f"{path} is no text in UTF-8 (byte {fault.start})", "edits") from fault
 
 
-def _problems(lines: List[Line], answers: List[str]) -> List[RefusedEdit]:
+def _problems(lines: "List[Line]", answers: List[str]) -> List[RefusedEdit]:
     """What the program refused, by the numbers of the lines."""
     problems = []
     for line, answer in zip(lines, answers):
