@@ -375,7 +375,7 @@ def test_a_run_without_an_answer_leaves_the_verdict_open(monkeypatch):
         check_island(island_of())
 
 
-def test_an_open_verdict_is_status_2_and_one_line(tmp_path, monkeypatch, capsys):
+def test_an_open_verdict_is_status_3_and_one_line(tmp_path, monkeypatch, capsys):
     frame(grid(8, 8)).to_file(tmp_path / "parcels.gpkg", driver="GPKG")
     asked = runs.run_tool
 
@@ -386,7 +386,7 @@ def test_an_open_verdict_is_status_2_and_one_line(tmp_path, monkeypatch, capsys)
 
     monkeypatch.setattr(runs, "run_tool", dies)
     words = ["--number", "parcel_no", "--parcels-a-district", "10"]
-    assert main(["check", str(tmp_path / "parcels.gpkg"), *words]) == 2
+    assert main(["check", str(tmp_path / "parcels.gpkg"), *words]) == 3
     assert capsys.readouterr().err.splitlines()[-1].startswith("error: parcels: T11 the verdict is open: not judged")
 
 
@@ -397,7 +397,7 @@ def with_a_slit(shapes: List[Polygon]) -> List[Polygon]:
 
 
 @pytest.mark.parametrize("cut_at", [None, "2"])
-@pytest.mark.parametrize("change, status", [(list, 0), (lambda it: it[:4] + it[5:], 1), (with_a_slit, 2)])
+@pytest.mark.parametrize("change, status", [(list, 0), (lambda it: it[:4] + it[5:], 1), (with_a_slit, 3)])
 def test_a_status_by_the_verdict(tmp_path, capsys, change, status, cut_at):
     shapes = change(grid(2, 2, bend=0.0) if change is with_a_slit else grid(3, 3))
     frame(shapes).to_file(tmp_path / "parcels.gpkg", driver="GPKG")
