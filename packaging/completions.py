@@ -37,7 +37,6 @@ def first_words(text: str) -> str:
 def bash(program: str, commands: List[Command], top: List[str]) -> str:
     """The completion for bash. Names of files may have blanks and be begun with a quote."""
     names = " ".join(it.name for it in commands)
-    layers = "!*.[sS][hH][pP]" if any(SHAPEFILES & set(it.places) for it in commands) else ""
     behind, cases = [], []
     for option in {it.words[-1]: it for one in commands for it in one.options if it.values}.values():
         if option.choices:
@@ -80,7 +79,7 @@ def bash(program: str, commands: List[Command], top: List[str]) -> str:
             "  esac",
             '  case "$word" in',
             f'    -*) _{program}_words "$options" ;;',
-            f"    *) _{program}_files '{layers}' ;;",
+            f"    *) _{program}_files '!*.[sS][hH][pP]' ;;",
             "  esac",
             "}",
             f"complete -F _{program} {program}",
@@ -149,8 +148,6 @@ def fish(program: str, commands: List[Command], top: List[str]) -> str:
         begin = f"complete -c {program} -n '__fish_seen_subcommand_from {one.name}'"
         if SHAPEFILES & set(one.places):
             lines.append(f"{begin} -k -a '{shapefiles}'")
-        elif ANY_FILES & set(one.places):
-            lines.append(f"{begin} -F")
         for option in one.options:
             words = " ".join(f"-l {it[2:]}" if it.startswith("--") else f"-s {it[1:]}" for it in option.words)
             value = ""

@@ -1,4 +1,4 @@
-"""What the command line of `gandovel` says of itself, as JSON: for its man page and completions.
+"""What the command line of `gandovel` says of itself, as JSON: for its man page.
 
 Debian's Python runs it: the package's modules that it reads need tqdm and NumPy.
 """
@@ -29,8 +29,6 @@ def told(action: argparse.Action) -> Dict[str, Any]:
         "values": names_of(action),
         "choices": [str(choice) for choice in action.choices or ()],
         "says": action.help or "",
-        "repeats": isinstance(action, argparse._AppendAction),
-        "nargs": str(action.nargs or ""),
     }
 
 

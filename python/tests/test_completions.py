@@ -51,8 +51,8 @@ def said_of(terminal, text, end):
     return said.decode(errors="replace").replace("\r", "")
 
 
-WORDS = "; ".join(it + '() { printf "<%s>" "$@"; echo; }' for it in ("parcel_tool", "gandovel"))
-"""Programs that print the words they are given."""
+WORDS = 'parcel_tool() { printf "<%s>" "$@"; echo; }'
+"""A program that prints the words it is given."""
 
 
 def given(shown):
@@ -60,7 +60,7 @@ def given(shown):
     return [it.rstrip("/") for it in re.findall(r"<([^<>]*)>", re.search(r"^(?:<[^<>]*>)+$", shown, re.M)[0])]
 
 
-BASH = (["bash", "--norc", "-i"], f"{WORDS}; source {PACKAGING}/parcel_tool.bash; source {PACKAGING}/gandovel.bash")
+BASH = (["bash", "--norc", "-i"], f"{WORDS}; source {PACKAGING}/parcel_tool.bash")
 ZSH = (["zsh", "-f", "-i"], f"fpath=({PACKAGING} $fpath); autoload -U compinit; compinit -D; {WORDS}")
 
 
@@ -75,11 +75,6 @@ ZSH = (["zsh", "-f", "-i"], f"fpath=({PACKAGING} $fpath); autoload -U compinit; 
         ("parcel_tool check city.shp --wor", ["check", "city.shp", "--workers"]),
         ("parcel_tool check --clerk no", ["check", "--clerk", "notes.txt"]),
         ("parcel_tool session --zones ci", ["session", "--zones", "city.shp"]),
-        ("gandovel expl", ["explain"]),
-        ("gandovel check no", ["check", "notes.txt"]),
-        ("gandovel apply my\\ p", ["apply", "my parcels.shp"]),
-        ("gandovel mend city.shp --to bor", ["mend", "city.shp", "--to", "border"]),
-        ("gandovel journal --rep", ["journal", "--repair"]),
     ],
 )
 def test_completes(argv, setup, line, words, folder):
@@ -96,18 +91,59 @@ def test_completes(argv, setup, line, words, folder):
         ("parcel_tool check city.shp my", {"my parcels.shp"}),
         ("parcel_tool check --clerk no", {"notes.txt"}),
         ("parcel_tool export --o", {"--out"}),
-        ("gandovel expl", {"explain"}),
-        ("gandovel check no", {"notes.txt"}),
-        ("gandovel mend --to ", {"border", "larger", "older", "none"}),
-        ("gandovel journal --rep", {"--repair"}),
-        ("gandovel report --known no", {"notes.txt"}),
     ],
 )
 def test_completes_in_fish(line, words, folder):
     if not shutil.which("fish"):
         pytest.skip("no fish")
-    asked = f"source {PACKAGING}/{line.split()[0]}.fish; complete -C {line!r}"
+    asked = f"source {PACKAGING}/parcel_tool.fish; complete -C {line!r}"
     said = subprocess.run(
         ["fish", "--no-config", "-c", asked], cwd=folder, check=True, stdout=subprocess.PIPE, text=True
     )
     assert {it.partition("\t")[0].replace("\\", "") for it in said.stdout.splitlines()} == words
+
+
+@pytest.fixture
+def command(folder):
+    """A command `gandovel` on PATH that prints the words it is given, where no shell asks what may come next."""
+    (folder / "bin").mkdir()
+    asked = f'PYTHONPATH={PACKAGING.parent}/python/src exec /usr/bin/python3 -m gandovel "$@"'
+    (folder / "bin/gandovel").write_text(f'#!/bin/sh\n[ -n "$_ARGCOMPLETE" ] && {asked}\nprintf "<%s>" "$@"; echo\n')
+    (folder / "bin/gandovel").chmod(0o755)
+    return folder / "bin"
+
+
+REGISTER = 'eval "$(register-python-argcomplete gandovel)"'
+
+
+@pytest.mark.parametrize(
+    "argv, setup",
+    [(BASH[0], REGISTER), (ZSH[0], f"{ZSH[1]}; autoload -U bashcompinit; bashcompinit; {REGISTER}")],
+    ids=["bash", "zsh"],
+)
+@pytest.mark.parametrize(
+    "line, words",
+    [
+        ("gandovel expl", ["explain"]),
+        ("gandovel check no", ["check", "notes.txt"]),
+        ("gandovel apply my\\ p", ["apply", "my parcels.shp"]),
+        ("gandovel mend city.shp --to bor", ["mend", "city.shp", "--to", "border"]),
+        ("gandovel journal --rep", ["journal", "--repair"]),
+    ],
+)
+def test_completes_the_package_s_command(argv, setup, line, words, folder, command):
+    """By argcomplete, which asks the command itself."""
+    if not shutil.which(argv[0]):
+        pytest.skip(f"no {argv[0]}")
+    assert given(typed(argv, f"PATH={command}:$PATH; {setup}", line, folder)) == words
+
+
+def test_completes_the_package_s_command_in_fish(folder, command):
+    if not shutil.which("fish"):
+        pytest.skip("no fish")
+    register = f"set -x PATH {command} $PATH; register-python-argcomplete --shell fish gandovel | source"
+    asked = f"{register}; complete -C 'gandovel mend --to '"
+    said = subprocess.run(
+        ["fish", "--no-config", "-c", asked], cwd=folder, check=True, stdout=subprocess.PIPE, text=True
+    )
+    assert {it.partition("\t")[0] for it in said.stdout.splitlines()} == {"border", "larger", "older", "none"}

@@ -19,9 +19,10 @@ import geopandas as gpd
 import pytest
 
 from gandovel import Refused
-from gandovel.many import run_many, worker
+from gandovel.many import run_many
 from gandovel.many.engines import jobs
 from gandovel.many.tasks import Batch, Program, Task
+from gandovel.many.worker import files
 from many_cities import (
     GAP,
     SIDE,
@@ -237,7 +238,7 @@ def test_results_of_someone_else_are_verified(tmp_path, monkeypatch):
     (folder / "output.txt").write_text("tiling 4 800000000\n")
     (folder / "errors.txt").write_text("")
     for name in ("output", "errors"):
-        facts[name] = worker.told_of(str(folder / f"{name}.txt"))
+        facts[name] = files.told_of(str(folder / f"{name}.txt"))
     (folder / "result.json").write_text(json.dumps({**facts, "status": 0}))
     assert run_many(manifest, out, resume=True).verdicts[1].tiles, "whoever may write there may write results"
     summary = run_many(manifest, out, verify=True)
@@ -490,7 +491,7 @@ def test_a_client_of_dask_that_reconnects_tells_nothing_of_it(tmp_path):
     assert [line.partition(":")[0] for line in ended.stderr.splitlines()] == ["dashboard"], ended.stderr
 
 
-@pytest.mark.parametrize("engine", ["parallel", "dask"])
+@pytest.mark.parametrize("engine", ["parallel", "processes", "dask"])
 def test_tasks_that_share_a_job(tmp_path, monkeypatch, engine):
     monkeypatch.setattr(sys.modules[f"gandovel.many.engines.{engine}"], "jobs_of", lambda *_: [range(6), range(6, 12)])
     program(
@@ -517,7 +518,7 @@ def test_tasks_that_share_a_job(tmp_path, monkeypatch, engine):
     until(lambda: not processes_of(tmp_path / "in"))
 
 
-@pytest.mark.parametrize("engine", ["parallel", "dask"])
+@pytest.mark.parametrize("engine", ["parallel", "processes", "dask"])
 def test_a_job_that_is_killed_on_its_last_try(tmp_path, monkeypatch, engine):
     monkeypatch.setattr(sys.modules[f"gandovel.many.engines.{engine}"], "jobs_of", lambda *_: [range(6), range(6, 8)])
     program(
@@ -531,12 +532,13 @@ def test_a_job_that_is_killed_on_its_last_try(tmp_path, monkeypatch, engine):
     assert names_in(tmp_path / "out/engine/1-cities/alone") >= {f"{at}.txt" for at in range(4)}
 
 
-def test_lists_that_nobody_took(tmp_path, monkeypatch):
+@pytest.mark.parametrize("engine", ["parallel", "processes"])
+def test_lists_that_nobody_took(tmp_path, monkeypatch, engine):
     """Both processes that run tasks are killed on their last try: what they had is named, what they had not is done."""
-    monkeypatch.setattr(sys.modules["gandovel.many.engines.parallel"], "jobs_of", lambda *_: [[at] for at in range(4)])
+    monkeypatch.setattr(sys.modules[f"gandovel.many.engines.{engine}"], "jobs_of", lambda *_: [[at] for at in range(4)])
     once = '{ mkdir "$city/../one" || mkdir "$city/../two"; } 2> /dev/null'
     program(tmp_path, monkeypatch, f"{once} && {{ kill -9 {PARENT}; sleep 600; }}")
-    summary = run_many(write_cities(tmp_path, 4), tmp_path / "out", "parallel", jobs=2, retries=0)
+    summary = run_many(write_cities(tmp_path, 4), tmp_path / "out", engine, jobs=2, retries=0)
     assert sorted(it.code for it in summary.verdicts) == ["", "", "T4", "T4"]
     assert len(list((tmp_path / "out/engine/1-cities/alone").glob("?.txt"))) == 2
     until(lambda: not processes_of(tmp_path / "in"))
@@ -584,12 +586,14 @@ def test_engines_that_are_not_there(tmp_path, monkeypatch):
     (tmp_path / "bin").mkdir()
     monkeypatch.setenv("PATH", str(tmp_path / "bin"))
     for engine, words in (
-        ("parallel", "GNU parallel is not there"),
-        ("slurm", "sbatch is not on PATH"),
+        ("parallel", "GNU parallel is not there: install the package parallel, or say --engine processes"),
+        ("slurm", "sbatch is not on PATH: install the package slurm-client"),
         ("none", "no engine none"),
     ):
         with pytest.raises(Refused, match=f"T7 .*{words}"):
             run_many(manifest, tmp_path / "out", engine)
+    assert run_many(manifest, tmp_path / "default").status == 0
+    assert json.loads((tmp_path / "default/many.json").read_text())["engine"] == "processes"
     (tmp_path / "bin/parallel").write_text("#!/bin/sh\necho parallel of moreutils\n")
     (tmp_path / "bin/parallel").chmod(0o755)
     with pytest.raises(Refused, match="T7 .*not GNU parallel"):

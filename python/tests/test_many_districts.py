@@ -231,7 +231,7 @@ PLANTED = {
     "moved": ("does not tile: 2 of 3 districts tile; not d1 (H2); parcel record 2 crosses districts d1 and d2", 1),
     "a centimetre in the layer of districts": ("does not tile: the layer of districts does not (H2); 2 of 3", 1),
     "doubled": ("does not tile: 2 of 3 districts tile; not d1 (H2); parcel record 1 crosses districts d1 and d0", 1),
-    "missing": ("open: the manifest has no row for district 2 of 3", 2),
+    "missing": ("open: the manifest has no row for district 2 of 3", 3),
     "a T junction at a border": ("tiles: 13 parcels of 3 districts", 0),
 }
 

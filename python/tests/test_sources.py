@@ -202,8 +202,14 @@ def test_curves_and_measures(tmp_path):
         )
     pytest.importorskip("osgeo")
     frame = read_layer(tmp_path / "arc.gpkg", "parcels")
-    assert frame.attrs["lost"][0] == "parcels: curves were made straight by GDAL"
-    assert len(frame.geometry[0].exterior.coords) > 50
+    (told,) = frame.attrs["lost"]
+    assert told == "parcels: 2 arcs were read as 512 chords, off by 1 mm at most (a tenth of the grid)"
+    centre, corners = np.array([561010.0, 5934000.0]), np.array(frame.geometry[0].exterior.coords)
+    middles = (corners[1:] + corners[:-1]) / 2
+    assert np.abs(np.hypot(*(corners - centre).T) - 10).max() < 1e-8
+    assert 0.0001 < (10 - np.hypot(*(middles - centre).T)).max() <= 0.001
+    line = gv.report(gv.prepare(tmp_path / "arc.gpkg", number="id")).basis.line()
+    assert "2 arcs read as 512 chords, 1 mm off at most; " in line
     assert any("measures (M)" in text for text in read_layer(tmp_path / "m.gpkg", "parcels").attrs["lost"])
 
 

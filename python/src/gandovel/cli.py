@@ -276,7 +276,12 @@ def _find_projections() -> None:
 
 def main(arguments: Optional[List[str]] = None) -> int:
     """Runs the command line; the status."""
-    options = parser().parse_args(arguments)
+    line = parser()
+    if "_ARGCOMPLETE" in os.environ:  # a shell asks what may come next
+        import argcomplete
+
+        argcomplete.autocomplete(line)
+    options = line.parse_args(arguments)
     _begin_log()
     _find_projections()
     commands: Dict[str, Callable[[argparse.Namespace], Optional[int]]] = {

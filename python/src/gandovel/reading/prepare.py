@@ -25,6 +25,7 @@ from ..faults.neighbours import neighbours_of
 from ..program.limits import FARTHEST, MOST_CORNERS, too_large
 from ..progress import Progress
 from ..shapes import bounds_of
+from .curves import Chords
 from .digests import source_of
 from .keys import key_of
 from .loops import (
@@ -69,6 +70,12 @@ class _Layers:
     def scale(self) -> float:
         """Millimetres per unit."""
         return self.unit.millimetres
+
+    @property
+    def chords(self) -> Dict[str, Chords]:
+        """What became of the arcs of each layer that had some, by its role."""
+        layers = zip(ROLES, (self.parcels, self.zones, self.city))
+        return {role: it.attrs["chords"] for role, it in layers if it is not None and "chords" in it.attrs}
 
     def shapes(self, layer: int) -> Optional[List[Any]]:
         """The shapes of a layer, None for those left out; None where there is no such layer."""
@@ -250,6 +257,7 @@ def _prepared(
         "noise": work.noise,
         "grid_mm": work.reaches.layers[PARCELS].grid,
         "precision": work.reaches.layers[PARCELS].told(),
+        "curves": [{"layer": role, **it.told()} for role, it in layers.chords.items() if it.arcs],
         **changes.told(),
     }
     prepared = Prepared(
@@ -377,12 +385,23 @@ def _taken_apart(layers: _Layers, grid: Optional[float], touch: Optional[float])
     noise = noise_of(corners)
     (xs, x_made_one), (ys, y_made_one) = (values_gathered(corners[:, axis], noise) for axis in (0, 1))
     points, loops.corners = points_of(np.column_stack([xs, ys]))
-    reaches = reaches_of(loops, points, layers.scale, noise, grid, touch)
+    made = np.zeros(len(points), dtype=bool)
+    made[loops.corners[_are_made(corners, layers)]] = True
+    reaches = reaches_of(loops, points, layers.scale, noise, grid, touch, made)
     work = _Work(loops, points, reaches, layers.scale)
     distance = np.hypot(xs - corners[:, 0], ys - corners[:, 1])
     at = np.flatnonzero((x_made_one & (xs != corners[:, 0])) | (y_made_one & (ys != corners[:, 1])))
     work.tell(GATHERED, corners[at], distance[at], np.searchsorted(loops.starts, at, side="right") - 1)
     return work
+
+
+def _are_made(corners: Array, layers: _Layers) -> Array:
+    """Which of the corners (n, 2) in mm are ends of chords, that their layers have not."""
+    made = [it.corners * layers.scale for it in layers.chords.values()]
+    if not made:
+        return np.zeros(len(corners), dtype=bool)
+    places = np.concatenate(made)
+    return np.isin(corners[:, 0] + 1j * corners[:, 1], places[:, 0] + 1j * places[:, 1])
 
 
 def _outlines_and_zones(
