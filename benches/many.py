@@ -39,7 +39,7 @@ HERE = os.path.dirname(os.path.abspath(__file__))
 sys.dont_write_bytecode = True
 sys.path[:0] = [HERE, os.path.join(HERE, "..", "python", "tests"), os.path.join(HERE, "..", "python", "src")]
 SOURCES = os.path.abspath(os.path.join(HERE, "..", "python", "src"))
-WORKER = os.path.join(SOURCES, "gandovel", "many", "start.py")
+WORKER = os.path.join(SOURCES, "gandovel", "many", "worker", "start.py")
 KINDS = 10
 """So many cities of S are made; the others are copies of them, with files of their own."""
 

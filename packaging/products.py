@@ -1,15 +1,16 @@
 """What is handed out: the `.tar.gz`, the wheel and the `.deb` around one static program, and the sources of the wheel,
 as bytes."""
-import base64
 import hashlib
+import os
 import re
 import subprocess
+import tempfile
 import tomllib
 from datetime import datetime, timezone
 from pathlib import Path
-from typing import Dict, List
+from typing import Dict
 
-from archives import Files, ar, packed, tar_gz, zip_file
+from archives import EARLIEST_OF_ZIP, Files, ar, mode, packed, tar_gz
 
 PLATFORM = "manylinux2014_x86_64.musllinux_1_1_x86_64"
 """Where a static program runs: with any C library."""
@@ -126,48 +127,9 @@ def sdist_name(project: Dict) -> str:
     return f"{project['name']}-{project['version']}.tar.gz"
 
 
-def sdist(root: Path, seconds: int) -> bytes:
-    """The source distribution of `python/`: what builds a wheel again, without the program."""
-    project = project_of(root)
-    stem = sdist_name(project).removesuffix(".tar.gz")
-    readme = (root / "python" / project["readme"]).read_text(encoding="utf-8")
-    files = {
-        name: ((root / "python" / name).read_bytes(), False)
-        for name in ("pyproject.toml", "README.md", "build_backend.py")
-    }
-    files |= read_tree(root / "python/src", "src")
-    files["PKG-INFO"] = (metadata(project, readme).encode(), False)
-    files["LICENCE-STATE.txt"] = ((root / "packaging/LICENCE-STATE.txt").read_bytes(), False)
-    return tar_gz(files, seconds, f"{stem}/")
-
-
-def metadata(project: Dict, readme: str) -> str:
-    """A wheel's METADATA of what `pyproject.toml` says."""
-    lines = [
-        "Metadata-Version: 2.1",
-        f"Name: {project['name']}",
-        f"Version: {project['version']}",
-        f"Summary: {project.get('description', '')}",
-        f"Requires-Python: {project['requires-python']}",
-        *(f"Requires-Dist: {it}" for it in project.get("dependencies", [])),
-    ]
-    for extra, wanted in project.get("optional-dependencies", {}).items():
-        lines += [f"Provides-Extra: {extra}", *(f'Requires-Dist: {it}; extra == "{extra}"' for it in wanted)]
-    return "\n".join([*lines, "Description-Content-Type: text/markdown", "", readme])
-
-
 def project_of(root: Path) -> Dict:
     """The table `project` of `python/pyproject.toml`."""
     return tomllib.loads((root / "python/pyproject.toml").read_text(encoding="utf-8"))["project"]
-
-
-def record(files: Files, at: str) -> bytes:
-    """A wheel's RECORD: each file's sum and length."""
-    lines = []
-    for path, (data, _) in files.items():
-        digest = base64.urlsafe_b64encode(hashlib.sha256(data).digest()).rstrip(b"=").decode()
-        lines.append(f"{path},sha256={digest},{len(data)}\n")
-    return "".join([*lines, f"{at},,\n"]).encode()
 
 
 def wheel_name(project: Dict) -> str:
@@ -178,23 +140,43 @@ def wheel_name(project: Dict) -> str:
 
 def wheel(root: Path, parts: Files, seconds: int) -> bytes:
     """The wheel of `python/`, which carries the program as `bin/parcel_tool` of the package."""
-    project = project_of(root)
-    readme = root / "python" / project["readme"] if "readme" in project else None
-    text = readme.read_text(encoding="utf-8") if readme and readme.is_file() else ""
-    package = wheel_name(project).split("-")[0]
-    info = f"{package}-{project['version']}.dist-info"
-    tags: List[str] = [f"Tag: py3-none-{it}\n" for it in PLATFORM.split(".")]
-    about = "Wheel-Version: 1.0\nGenerator: scripts/release\nRoot-Is-Purelib: false\n" + "".join(tags)
-    commands = "".join(f"{name} = {it}\n" for name, it in project.get("scripts", {}).items())
-    files = {
-        **read_tree(root / "python/src" / package, package),
-        f"{package}/bin/parcel_tool": parts["program"],
-        f"{info}/METADATA": (metadata(project, text).encode(), False),
-        f"{info}/WHEEL": (about.encode(), False),
-        f"{info}/entry_points.txt": (f"[console_scripts]\n{commands}".encode(), False),
-        f"{info}/PROOF.txt": parts["proof"],
-        f"{info}/LICENCE-STATE.txt": parts["licence"],
-        f"{info}/sboms/parcel_tool.spdx.json": parts["bill"],
-    }
-    files[f"{info}/RECORD"] = (record(files, f"{info}/RECORD"), False)
-    return zip_file(files, seconds)
+    return built(root, "wheel", seconds, parts)
+
+
+def sdist(root: Path, seconds: int) -> bytes:
+    """The source distribution of `python/`: what builds a wheel again, without the program."""
+    return built(root, "sdist", seconds, {})
+
+
+ABOUT = {"proof": "PROOF.txt", "licence": "LICENCE-STATE.txt", "bill": "sboms/parcel_tool.spdx.json"}
+"""What a wheel's folder of metadata has of the program."""
+
+
+def built(root: Path, kind: str, seconds: int, parts: Files) -> bytes:
+    """What Hatchling builds of the files of `python/` that git has, with these parts of a release."""
+    subprocess.run([root / "scripts/install_packages", "python3-hatchling"], check=True)
+    with tempfile.TemporaryDirectory() as name:
+        room = Path(name)
+        licence = {"python/LICENCE-STATE.txt": ((root / "packaging/LICENCE-STATE.txt").read_bytes(), False)}
+        sources = {} if kind == "wheel" else licence
+        put({**read_tree(root / "python", "python"), **sources}, room)
+        put({"parcel_tool": parts.get("program", (b"", False))}, room)
+        put({place: parts[role] for role, place in ABOUT.items()} if parts else {}, room / "info")
+        more = {
+            "SOURCE_DATE_EPOCH": str(max(seconds, EARLIEST_OF_ZIP)),
+            "GANDOVEL_TOOL": str(room / "parcel_tool"),
+            "GANDOVEL_PLATFORM": PLATFORM,
+            "GANDOVEL_INFO": str(room / "info"),
+        }
+        command = ["/usr/bin/python3", "-m", "hatchling", "build", "-t", kind, "-d", str(room / "dist")]
+        subprocess.run(command, cwd=room / "python", env={**os.environ, **more}, check=True, stdout=subprocess.DEVNULL)
+        (made,) = (room / "dist").iterdir()
+        return made.read_bytes()
+
+
+def put(files: Files, folder: Path) -> None:
+    """Writes files below a folder."""
+    for path, (data, runs) in files.items():
+        (folder / path).parent.mkdir(parents=True, exist_ok=True)
+        (folder / path).write_bytes(data)
+        (folder / path).chmod(mode(runs))

@@ -9,7 +9,7 @@ import pytest
 
 SLURM = bool(os.environ.get("GANDOVEL_SLURM"))
 collect_ignore = [] if SLURM else ["test_many_slurm.py"]
-ENGINES = ["parallel", "dask", *(["slurm"] if SLURM else [])]
+ENGINES = ["parallel", "processes", "dask", *(["slurm"] if SLURM else [])]
 BUILT = Path(__file__).resolve().parents[2] / "crates/parcel_tool/out/parcel_tool"
 if "GANDOVEL_TOOL" not in os.environ and BUILT.is_file():
     os.environ["GANDOVEL_TOOL"] = str(BUILT)
@@ -68,7 +68,7 @@ def run(request):
         request.getfixturevalue("slurm_cluster")
     if name == "dask":
         options["scheduler"] = request.getfixturevalue("dask_cluster").scheduler_address
-    if name == "parallel":
+    if name in ("parallel", "processes"):
         options["jobs"] = 4
 
     def call(manifest, out, **more):

@@ -2,15 +2,16 @@
 are.
 
 `CASES` names the ways in which a register is kept: rounded to a decimal grid or to 5, 25 or 50 mm, with one corner
-finer
-than the others, reprojected, in a File Geodatabase, in degrees with seven decimals, in feet, with a curve. `case(name,
-seed, folder)` makes one, `Case.judged` says what of the planted was found, and what was found that is not there.
+finer than the others, reprojected, in a File Geodatabase, in degrees with seven decimals, in feet, with a curve, with
+arcs that two parcels share. `case(name, seed, folder)` makes one, `Case.judged` says what of the planted was found, and
+what was found that is not there.
 
 Run as a program it writes one layer: `planted.py NAME SEED FOLDER` makes FOLDER/parcels.gpkg and FOLDER/truth.csv.
 """
 from __future__ import annotations
 
 import csv
+import math
 import random
 import subprocess
 import sys
@@ -31,6 +32,9 @@ GEODATABASE_OF_FEET = ("XYSCALE=3048.00609601219", "XORIGIN=-117608900", "YORIGI
 """The resolution that an Esri geodatabase gives a layer in feet by default: a tenth of a millimetre, and its origin."""
 WIDEST, NARROWEST = 8.0, 2.2
 """How wide planted faults are: in distances that the way of keeping explains. None is narrower than twice that."""
+
+
+Corner = Tuple[float, float]
 
 
 @dataclass
@@ -196,10 +200,66 @@ def _feet(step: Optional[float]) -> Callable[[int, Path], Case]:
 
 def _curve(seed: int, folder: Path) -> Case:
     """In centimetres, but for one parcel at the outline, one side of which is an arc, at its floats."""
-    from osgeo import ogr, osr
-
     frame, planted = drawn(seed, 14.2)
     frame = rounded(frame, 0.01)
+    texts = [shape.wkt for shape in frame.geometry]
+    texts[0] = _arc_of(list(frame.geometry.iloc[0].exterior.coords))
+    return Case("", _with_curves(frame, texts, folder), planted, 14.2)
+
+
+def _arcs(seed: int, folder: Path) -> Case:
+    """In centimetres, with every third border of two parcels an arc, that each of them has digitised on its own."""
+    frame, planted = drawn(seed, 14.2)
+    frame = rounded(frame, 0.01)
+    pick = random.Random(seed)
+    rings = [list(shape.exterior.coords) for shape in frame.geometry]
+    faulty = {int(number[1:]) for fault in planted for number in fault.numbers}
+    right: Dict[int, str] = {}
+    left: Dict[int, str] = {}
+    for at, ring in enumerate(rings[:-1]):
+        b, c = ring[1], ring[2]
+        is_shared = (rings[at + 1][3], rings[at + 1][0]) == (c, b)
+        if is_shared and not {at, at + 1} & faulty and pick.random() < 1 / 3:
+            right[at], left[at + 1] = _two_ways(b, c, pick.choice([-1, 1]) * pick.uniform(0.4, 2.0), pick)
+    texts = [_sides(ring, right.get(at), left.get(at)) for at, ring in enumerate(rings)]
+    return Case("", _with_curves(frame, texts, folder), planted, 14.2)
+
+
+def _two_ways(b: Corner, c: Corner, bulge: float, pick: random.Random) -> Tuple[str, str]:
+    """One arc between two corners, as two parcels have it: each with a middle of its own, one of them at times in two
+    pieces."""
+    (bx, by), (cx, cy) = b, c
+    length = math.hypot(cx - bx, cy - by)
+    radius = (length**2 / 4 + bulge**2) / (2 * bulge)
+    nx, ny = (by - cy) / length, (cx - bx) / length
+
+    def on_it(share: float) -> Corner:
+        along = (share - 0.5) * length
+        up = math.copysign(math.sqrt(radius**2 - along**2), radius) - (radius - bulge)
+        x, y = (bx + cx) / 2 + along * (cx - bx) / length + up * nx, (by + cy) / 2 + along * (
+            cy - by
+        ) / length + up * ny
+        return round(x, 2), round(y, 2)
+
+    one = [b, on_it(pick.uniform(0.35, 0.65)), c]
+    other = [c, on_it(pick.uniform(0.35, 0.65)), b]
+    if pick.random() < 0.3:
+        other = [c, on_it(0.8), on_it(0.6), on_it(0.3), b]
+    return tuple(", ".join(f"{x!r} {y!r}" for x, y in points) for points in (one, other))
+
+
+def _sides(ring: List[Corner], right: Optional[str], left: Optional[str]) -> str:
+    """A ring of four sides, of which the second and the fourth may be arcs."""
+    words = [", ".join(f"{x!r} {y!r}" for x, y in ring[at : at + 2]) for at in range(4)]
+    sides = [f"({words[0]})", f"CIRCULARSTRING ({right})" if right else f"({words[1]})", f"({words[2]})"]
+    sides += [f"CIRCULARSTRING ({left})" if left else f"({words[3]})"]
+    return f"CURVEPOLYGON (COMPOUNDCURVE ({', '.join(sides)}))"
+
+
+def _with_curves(frame: gpd.GeoDataFrame, texts: List[str], folder: Path) -> Path:
+    """A layer of curves, the shapes of which are these texts."""
+    from osgeo import ogr, osr
+
     folder.mkdir(parents=True, exist_ok=True)
     path = folder / "parcels.gpkg"
     made = ogr.GetDriverByName("GPKG").CreateDataSource(str(path))
@@ -207,18 +267,16 @@ def _curve(seed: int, folder: Path) -> Case:
     system.ImportFromEPSG(METRIC)
     layer = made.CreateLayer("parcels", system, ogr.wkbCurvePolygon)
     layer.CreateField(ogr.FieldDefn("parcel_no", ogr.OFTString))
-    for row, (number, shape) in enumerate(zip(frame["parcel_no"], frame.geometry)):
-        corners = list(shape.exterior.coords)
-        text = _arc_of(corners) if row == 0 else shape.wkt
+    for number, text in zip(frame["parcel_no"], texts):
         feature = ogr.Feature(layer.GetLayerDefn())
         feature["parcel_no"] = number
         feature.SetGeometry(ogr.CreateGeometryFromWkt(text))
         layer.CreateFeature(feature)
     del layer, made
-    return Case("", path, planted, 14.2)
+    return path
 
 
-def _arc_of(corners: List[Tuple[float, float]]) -> str:
+def _arc_of(corners: List[Corner]) -> str:
     """A ring whose first side, which is on the register's outline, is an arc that bulges outwards."""
     (ax, ay), (bx, by) = corners[:2]
     middle = (ax + bx) / 2 + 0.137 * (by - ay), (ay + by) / 2 - 0.137 * (bx - ax)
@@ -242,6 +300,7 @@ CASES: Dict[str, Callable[[int, Path], Case]] = {
     "feet": _feet(None),
     "hundredths of feet": _feet(0.01),
     "a curve": _curve,
+    "arcs between neighbours": _arcs,
 }
 """The ways in which registers are kept."""
 

@@ -1,4 +1,4 @@
-"""What is refused: one line that says what and where, status 1, and nothing left under the final name."""
+"""What is refused: one line that says what and where, status 4, and nothing left under the final name."""
 from __future__ import annotations
 
 import os
@@ -87,7 +87,7 @@ def test_a_file_that_is_torn_or_not_there(tmp_path):
     (tmp_path / "torn.gpkg").write_bytes(whole[:3000])
     for name in ("torn.gpkg", "none.gpkg"):
         ended = command("prepare", name, "--out", "work", cwd=tmp_path)
-        assert ended.returncode == 1 and ended.stdout == ""
+        assert ended.returncode == 4 and ended.stdout == ""
         assert ended.stderr.strip().splitlines()[-1].startswith("error: parcels: P1 ") and name in ended.stderr
         assert not (tmp_path / "work").exists()
 
@@ -155,7 +155,7 @@ def test_a_full_disk_leaves_nothing_half_written(tmp_path):
         env={**os.environ, "PYTHONPATH": str(SOURCES)},
         preexec_fn=lambda: resource.setrlimit(resource.RLIMIT_FSIZE, (100_000, 100_000)),
     )
-    assert ended.returncode == 1 and ended.stderr.strip().splitlines()[-1].startswith("error: P14 ")
+    assert ended.returncode == 4 and ended.stderr.strip().splitlines()[-1].startswith("error: P14 ")
     assert sorted(path.name for path in tmp_path.iterdir()) == ["parcels.gpkg"]
 
 

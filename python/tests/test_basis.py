@@ -53,7 +53,7 @@ def folder(layer):
 )
 def test_an_option_for_a_folder_is_refused_by_name(folder, words):
     ended = command("check", "work", *words, cwd=folder.parent)
-    assert ended.returncode == 1 and ended.stdout == ""
+    assert ended.returncode == 2 and ended.stdout == ""
     assert f"error: P18 work is prepared already, and {words[0]} is an option of what prepares it" in ended.stderr
     assert f"gandovel prepare PARCELS {words[0]}" in ended.stderr and "Traceback" not in ended.stderr
 
@@ -145,7 +145,7 @@ def test_known_faults_do_not_count(layer, known):
     ended = command("check", "parcels.gpkg", "--known", name, cwd=folder)
     assert ended.returncode == 1 and "1 of 3 faults are new" in ended.stderr
     ended = command("check", "parcels.gpkg", "--known", "none.json", cwd=folder)
-    assert ended.returncode == 1 and "error: P1 none.json has no faults that are known: give a report" in ended.stderr
+    assert ended.returncode == 4 and "error: P1 none.json has no faults that are known: give a report" in ended.stderr
 
 
 def test_an_identity_is_of_the_place_alone():

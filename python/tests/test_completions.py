@@ -101,3 +101,49 @@ def test_completes_in_fish(line, words, folder):
         ["fish", "--no-config", "-c", asked], cwd=folder, check=True, stdout=subprocess.PIPE, text=True
     )
     assert {it.partition("\t")[0].replace("\\", "") for it in said.stdout.splitlines()} == words
+
+
+@pytest.fixture
+def command(folder):
+    """A command `gandovel` on PATH that prints the words it is given, where no shell asks what may come next."""
+    (folder / "bin").mkdir()
+    asked = f'PYTHONPATH={PACKAGING.parent}/python/src exec /usr/bin/python3 -m gandovel "$@"'
+    (folder / "bin/gandovel").write_text(f'#!/bin/sh\n[ -n "$_ARGCOMPLETE" ] && {asked}\nprintf "<%s>" "$@"; echo\n')
+    (folder / "bin/gandovel").chmod(0o755)
+    return folder / "bin"
+
+
+REGISTER = 'eval "$(register-python-argcomplete gandovel)"'
+
+
+@pytest.mark.parametrize(
+    "argv, setup",
+    [(BASH[0], REGISTER), (ZSH[0], f"{ZSH[1]}; autoload -U bashcompinit; bashcompinit; {REGISTER}")],
+    ids=["bash", "zsh"],
+)
+@pytest.mark.parametrize(
+    "line, words",
+    [
+        ("gandovel expl", ["explain"]),
+        ("gandovel check no", ["check", "notes.txt"]),
+        ("gandovel apply my\\ p", ["apply", "my parcels.shp"]),
+        ("gandovel mend city.shp --to bor", ["mend", "city.shp", "--to", "border"]),
+        ("gandovel journal --rep", ["journal", "--repair"]),
+    ],
+)
+def test_completes_the_package_s_command(argv, setup, line, words, folder, command):
+    """By argcomplete, which asks the command itself."""
+    if not shutil.which(argv[0]):
+        pytest.skip(f"no {argv[0]}")
+    assert given(typed(argv, f"PATH={command}:$PATH; {setup}", line, folder)) == words
+
+
+def test_completes_the_package_s_command_in_fish(folder, command):
+    if not shutil.which("fish"):
+        pytest.skip("no fish")
+    register = f"set -x PATH {command} $PATH; register-python-argcomplete --shell fish gandovel | source"
+    asked = f"{register}; complete -C 'gandovel mend --to '"
+    said = subprocess.run(
+        ["fish", "--no-config", "-c", asked], cwd=folder, check=True, stdout=subprocess.PIPE, text=True
+    )
+    assert {it.partition("\t")[0] for it in said.stdout.splitlines()} == {"border", "larger", "older", "none"}

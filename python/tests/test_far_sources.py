@@ -63,7 +63,7 @@ def test_a_table_of_postgresql(database, tmp_path):
 
 def test_a_database_that_is_not_there(tmp_path):
     ended = command("check", f"PG:host={tmp_path} dbname=none", cwd=tmp_path)
-    assert ended.returncode == 1 and ended.stdout == ""
+    assert ended.returncode == 4 and ended.stdout == ""
     (line,) = ended.stderr.splitlines()
     assert line.startswith("error: parcels: P1 PG:host=") and "can't be read" in line
 
@@ -102,7 +102,7 @@ def test_no_layer_that_is_read_is_written_over(tmp_path):
     before = (tmp_path / "p.gpkg").read_bytes()
     for words in (("report", "p.gpkg"), ("mend", "p.gpkg"), ("report", "p.gpkg", "--city", "p.gpkg")):
         ended = command(*words, "--out", tmp_path / "p.gpkg", cwd=tmp_path)
-        assert ended.returncode == 1 and "error: P14" in ended.stderr and "give another name" in ended.stderr
+        assert ended.returncode == 4 and "error: P14" in ended.stderr and "give another name" in ended.stderr
     assert (tmp_path / "p.gpkg").read_bytes() == before and len(list(tmp_path.iterdir())) == 1
 
 

@@ -110,7 +110,7 @@ def test_damage_is_named_by_its_line(town, capsys, kind):
         town.journal.write_bytes(other)
         status, out, err = told(capsys, town.journal)
         first = next(at for at, (a, b) in enumerate(zip(text.split(b"\n"), other.split(b"\n")), 1) if a != b)
-        assert (status, out) == (1, "") and err.count("\n") == 1, err
+        assert (status, out) == (4, "") and err.count("\n") == 1, err
         assert err.startswith("error: ")
         if first > 1:
             assert f"{town.journal} line {first - first % 2}: " in err, (first, err)
@@ -153,10 +153,10 @@ def test_a_torn_tail_is_told(town, capsys):
 def test_no_journal(town, capsys, text):
     town.journal.write_bytes(text)
     status, out, err = told(capsys, town.journal)
-    assert (status, out) == (1, "") and err.startswith(f"error: no journal {town.journal}: "), err
+    assert (status, out) == (4, "") and err.startswith(f"error: no journal {town.journal}: "), err
     for path in (town.journal.parent, town.journal.parent / "none"):
         status, out, err = told(capsys, path)
-        assert (status, out) == (1, "") and err.startswith(f"error: S1 {path}: ")
+        assert (status, out) == (4, "") and err.startswith(f"error: S1 {path}: ")
 
 
 def test_a_word_that_moves_a_terminal(tmp_path, capsys):
@@ -176,7 +176,7 @@ def test_a_word_that_moves_a_terminal(tmp_path, capsys):
         ("# 1 1 2026-01-01T00:00:00Z ", "straighten -0 1"),
     ):
         path.write_bytes(written((stamp, edit)))
-        assert told(capsys, path)[0] == 1, (stamp, edit)
+        assert told(capsys, path)[0] == 4, (stamp, edit)
 
 
 @settings(deadline=None, suppress_health_check=[HealthCheck.too_slow])

@@ -23,9 +23,10 @@ from gandovel import Refused
 from gandovel.cli import main
 from gandovel.exact.rings import twice_area
 from gandovel.large import Cutting, cut_by, is_large
-from gandovel.large import compose, cutting, frames, runs, tiles, verdict
+from gandovel.large import compose, cutting, frames, pieces, runs, tiles, verdict
 from gandovel.large.cutting import cut, partition_faults
-from gandovel.large.verdict import Open, check_island, districts_of
+from gandovel.large.pieces import Open, districts_of
+from gandovel.large.verdict import check_island
 from gandovel.exact.noding import touches
 from gandovel.out.report import report
 from gandovel.program.untiled_overlays import filled
@@ -161,7 +162,7 @@ def test_districts_of_districts(monkeypatch, kind):
     monkeypatch.setattr(cutting, "MOST_IN_ALL", 130)
     with cut_by(Cutting(12, jobs=2)):
         assert said(report(prepared)) == said(whole)
-        levels = verdict._levels_of(prepared.islands[0], "parcels")
+        levels = pieces.levels_of_island(prepared.islands[0], "parcels")
     assert len(levels) > 1 and len(levels[-1]) < len(levels[0]) and (kind is None) == (whole.verdict == "tiles")
 
 
@@ -174,7 +175,7 @@ def test_groups_of_districts_that_are_exchanged(monkeypatch):
         are_exchanged(levels[1])
         return levels
 
-    monkeypatch.setattr(verdict, "levels_of", exchanged)
+    monkeypatch.setattr(pieces, "levels_of", exchanged)
     with cut_by(Cutting(12)), pytest.raises(Open):
         check_island(island_of(16, 12))
 
@@ -319,18 +320,18 @@ def test_outlines_that_are_none_of_their_rings(monkeypatch, change):
     broken_district(monkeypatch, change)
     with cut_by(Cutting(10)), pytest.raises(Open, match="T11 .*parcels cross districts") as caught:
         check_island(island_of())
-    assert caught.value.status == 2
+    assert caught.value.status == 3
 
 
 def test_a_run_in_another_outline_is_found(monkeypatch):
-    written = verdict._with_parts
+    written = verdict.with_parts
 
     def write(folder: Path, *words: Any) -> Any:
         sums = written(folder, *words)
         (folder / "d2/city.shp").write_bytes((folder / "d1/city.shp").read_bytes())
         return sums
 
-    monkeypatch.setattr(verdict, "_with_parts", write)
+    monkeypatch.setattr(verdict, "with_parts", write)
     with cut_by(Cutting(10)), pytest.raises(Open, match="district 2 was not judged in the outline"):
         check_island(island_of())
 
@@ -339,15 +340,15 @@ def test_outlines_are_the_programs(monkeypatch):
     """Each district is judged in the outline that `part --all` wrote, where the outlines tile; else in that of its
     record."""
     asked: List[List[str]] = []
-    ask = verdict.ask
-    monkeypatch.setattr(verdict, "ask", lambda words: (asked.append(words), ask(words))[1])
-    tests, outlines = verdict._test_outlines, []
+    ask = pieces.ask
+    monkeypatch.setattr(pieces, "ask", lambda words: (asked.append(words), ask(words))[1])
+    tests, outlines = verdict.test_outlines, []
 
     def kept(folder: Path, plan: Any, sums: Any) -> None:
         outlines.extend((folder / piece.name / "city.shp").read_bytes() for piece in plan.pieces)
         tests(folder, plan, sums)
 
-    monkeypatch.setattr(verdict, "_test_outlines", kept)
+    monkeypatch.setattr(verdict, "test_outlines", kept)
     island, moved = island_of(), cut(island_of().parcels.rings, 10)
     with cut_by(Cutting(10)):
         assert check_island(island).tiles
@@ -374,7 +375,7 @@ def test_a_run_without_an_answer_leaves_the_verdict_open(monkeypatch):
         check_island(island_of())
 
 
-def test_an_open_verdict_is_status_2_and_one_line(tmp_path, monkeypatch, capsys):
+def test_an_open_verdict_is_status_3_and_one_line(tmp_path, monkeypatch, capsys):
     frame(grid(8, 8)).to_file(tmp_path / "parcels.gpkg", driver="GPKG")
     asked = runs.run_tool
 
@@ -385,7 +386,7 @@ def test_an_open_verdict_is_status_2_and_one_line(tmp_path, monkeypatch, capsys)
 
     monkeypatch.setattr(runs, "run_tool", dies)
     words = ["--number", "parcel_no", "--parcels-a-district", "10"]
-    assert main(["check", str(tmp_path / "parcels.gpkg"), *words]) == 2
+    assert main(["check", str(tmp_path / "parcels.gpkg"), *words]) == 3
     assert capsys.readouterr().err.splitlines()[-1].startswith("error: parcels: T11 the verdict is open: not judged")
 
 
@@ -396,7 +397,7 @@ def with_a_slit(shapes: List[Polygon]) -> List[Polygon]:
 
 
 @pytest.mark.parametrize("cut_at", [None, "2"])
-@pytest.mark.parametrize("change, status", [(list, 0), (lambda it: it[:4] + it[5:], 1), (with_a_slit, 2)])
+@pytest.mark.parametrize("change, status", [(list, 0), (lambda it: it[:4] + it[5:], 1), (with_a_slit, 3)])
 def test_a_status_by_the_verdict(tmp_path, capsys, change, status, cut_at):
     shapes = change(grid(2, 2, bend=0.0) if change is with_a_slit else grid(3, 3))
     frame(shapes).to_file(tmp_path / "parcels.gpkg", driver="GPKG")
@@ -442,15 +443,15 @@ def test_a_full_disk(monkeypatch):
             raise OSError(28, "No space left on device")
         written(path, rings)
 
-    written = verdict.write_rings
-    monkeypatch.setattr(verdict, "write_rings", full)
+    written = pieces.write_rings
+    monkeypatch.setattr(pieces, "write_rings", full)
     with cut_by(Cutting(10)), pytest.raises(Refused, match="P14 .*No space left on device: set TMPDIR"):
         check_island(island_of())
 
 
 @pytest.mark.parametrize("jobs", [1, 2])
 def test_processes_that_write_districts(monkeypatch, jobs):
-    monkeypatch.setattr(verdict, "FORKED", 0)
+    monkeypatch.setattr(pieces, "FORKED", 0)
     with cut_by(Cutting(20, jobs=jobs)):
         assert check_island(island_of()).tiles
 
@@ -462,9 +463,9 @@ def test_a_process_that_writes_districts_is_killed(monkeypatch):
         if os.getpid() != parent:
             os.kill(os.getpid(), signal.SIGKILL)
 
-    monkeypatch.setattr(verdict, "FORKED", 0)
-    written = verdict.write_rings
-    monkeypatch.setattr(verdict, "write_rings", lambda path, rings: (dies(path, rings), written(path, rings)))
+    monkeypatch.setattr(pieces, "FORKED", 0)
+    written = pieces.write_rings
+    monkeypatch.setattr(pieces, "write_rings", lambda path, rings: (dies(path, rings), written(path, rings)))
     with cut_by(Cutting(20, jobs=2)), pytest.raises(Open, match="a process that wrote districts was killed"):
         check_island(island_of())
 

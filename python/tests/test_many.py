@@ -19,9 +19,10 @@ import geopandas as gpd
 import pytest
 
 from gandovel import Refused
-from gandovel.many import run_many, worker
+from gandovel.many import run_many
 from gandovel.many.engines import jobs
 from gandovel.many.tasks import Batch, Program, Task
+from gandovel.many.worker import files
 from many_cities import (
     GAP,
     SIDE,
@@ -225,7 +226,7 @@ def test_a_program_that_is_none(tmp_path, monkeypatch, how):
 def test_a_verdict_that_does_not_fit_the_layer(tmp_path, monkeypatch):
     program(tmp_path, monkeypatch, 'case "$city" in */c1) echo "tiling 30 800000000"; exit;; esac')
     summary = run_many(write_cities(tmp_path, 2), tmp_path / "out", retries=0)
-    assert verdicts(summary) == {"c0": ("tiles", ""), "c1": ("none", "T2")} and summary.status == 2
+    assert verdicts(summary) == {"c0": ("tiles", ""), "c1": ("none", "T2")} and summary.status == 3
     assert summary.without[0].text == "the program told a verdict of 30 parcels, and the layer has 4"
 
 
@@ -237,7 +238,7 @@ def test_results_of_someone_else_are_verified(tmp_path, monkeypatch):
     (folder / "output.txt").write_text("tiling 4 800000000\n")
     (folder / "errors.txt").write_text("")
     for name in ("output", "errors"):
-        facts[name] = worker.told_of(str(folder / f"{name}.txt"))
+        facts[name] = files.told_of(str(folder / f"{name}.txt"))
     (folder / "result.json").write_text(json.dumps({**facts, "status": 0}))
     assert run_many(manifest, out, resume=True).verdicts[1].tiles, "whoever may write there may write results"
     summary = run_many(manifest, out, verify=True)
@@ -270,7 +271,7 @@ def test_a_disk_that_is_full_for_a_while(tmp_path, monkeypatch, small_disk):
     manifest, out = write_cities(tmp_path, 3, [2]), small_disk / "out"
     summary = run_many(manifest, out, jobs=1, retries=0)
     assert verdicts(summary) == {"c0": ("tiles", ""), "c1": ("none", "S2"), "c2": ("refused", "H2")}
-    assert names_in(out / "cities") == {"c0", "c2"} and summary.status == 2 and summary.unwritten is None
+    assert names_in(out / "cities") == {"c0", "c2"} and summary.status == 3 and summary.unwritten is None
 
 
 def test_a_disk_that_stays_full(tmp_path, monkeypatch, small_disk):
@@ -278,7 +279,7 @@ def test_a_disk_that_stays_full(tmp_path, monkeypatch, small_disk):
     program(tmp_path, monkeypatch, f'case "$city" in */c2) cat /dev/zero > "{small_disk}/filled" 2> /dev/null;; esac')
     manifest, words = write_cities(tmp_path, 3), ["manifest.csv", "--out", small_disk / "out", "--jobs", "1"]
     ended = command(tmp_path, *words, "--retries", "0")
-    assert (ended.returncode, ended.stdout[:19]) == (2, "3 cities: 2 tile, 1")
+    assert (ended.returncode, ended.stdout[:19]) == (3, "3 cities: 2 tile, 1")
     assert "error: P14" in ended.stderr and "No space left" in ended.stderr and "Traceback" not in ended.stderr
     assert not (small_disk / "out/summary.csv").exists()
     (small_disk / "filled").unlink()
@@ -348,7 +349,7 @@ def test_two_runs_at_once(run, tmp_path, monkeypatch):
     try:
         until(lambda: calls(tmp_path))
         other = command(tmp_path, *words_of(run, "--resume"))
-        assert other.returncode == 1 and other.stdout == ""
+        assert other.returncode == 4 and other.stdout == ""
         assert (
             other.stderr.strip()
             .splitlines()[-1]
@@ -392,7 +393,7 @@ def test_a_command_that_is_stopped_leaves_nothing_running(run, tmp_path, monkeyp
     until(lambda: len(calls(tmp_path)) > 1 and have_results(tmp_path / "out", 1))
     one.send_signal(number)
     out, errors = one.communicate(timeout=300)
-    assert (one.returncode, out) == (1, "") and errors.strip().splitlines()[-1].startswith("error: T8 "), errors
+    assert (one.returncode, out) == (3, "") and errors.strip().splitlines()[-1].startswith("error: T8 "), errors
     until(lambda: not processes_of(tmp_path))
     assert "c0" in names_in(tmp_path / "out/cities") and not have_results(tmp_path / "out", 2)
 
@@ -404,7 +405,7 @@ def test_the_command_says_which_cities_have_no_verdict(run, tmp_path, monkeypatc
     assert ended.stdout == (
         f"3 cities: 1 tile, 1 refused (H2 1), 1 without a verdict (T4 1)\n1 gap: {tmp_path}/out/faults.gpkg\n"
     )
-    assert ended.returncode == 2
+    assert ended.returncode == 3
     assert ended.stderr.strip().splitlines()[-2:] == [
         "c1: T4 the program was killed by signal 9",
         "error: T9 1 of 3 cities have no verdict",
@@ -454,7 +455,7 @@ def test_a_scheduler_of_dask_that_is_killed(tmp_path, monkeypatch):
             until(lambda: have_results(tmp_path / "out", 1) and len(calls(tmp_path)) > 1, 400)
             scheduler.kill()
             out, errors = one.communicate(timeout=300)
-    assert (one.returncode, out) == (2, "3 cities: 1 tile, 2 without a verdict (T7 2)\n"), errors
+    assert (one.returncode, out) == (3, "3 cities: 1 tile, 2 without a verdict (T7 2)\n"), errors
     assert errors.splitlines()[-1] == "error: T9 2 of 3 cities have no verdict" and "Traceback" not in errors, errors
     assert errors.count(": T7 Dask: the scheduler went away") == 2
     until(lambda: not processes_of(tmp_path / "in"))
@@ -490,7 +491,7 @@ def test_a_client_of_dask_that_reconnects_tells_nothing_of_it(tmp_path):
     assert [line.partition(":")[0] for line in ended.stderr.splitlines()] == ["dashboard"], ended.stderr
 
 
-@pytest.mark.parametrize("engine", ["parallel", "dask"])
+@pytest.mark.parametrize("engine", ["parallel", "processes", "dask"])
 def test_tasks_that_share_a_job(tmp_path, monkeypatch, engine):
     monkeypatch.setattr(sys.modules[f"gandovel.many.engines.{engine}"], "jobs_of", lambda *_: [range(6), range(6, 12)])
     program(
@@ -517,7 +518,7 @@ def test_tasks_that_share_a_job(tmp_path, monkeypatch, engine):
     until(lambda: not processes_of(tmp_path / "in"))
 
 
-@pytest.mark.parametrize("engine", ["parallel", "dask"])
+@pytest.mark.parametrize("engine", ["parallel", "processes", "dask"])
 def test_a_job_that_is_killed_on_its_last_try(tmp_path, monkeypatch, engine):
     monkeypatch.setattr(sys.modules[f"gandovel.many.engines.{engine}"], "jobs_of", lambda *_: [range(6), range(6, 8)])
     program(
@@ -531,12 +532,13 @@ def test_a_job_that_is_killed_on_its_last_try(tmp_path, monkeypatch, engine):
     assert names_in(tmp_path / "out/engine/1-cities/alone") >= {f"{at}.txt" for at in range(4)}
 
 
-def test_lists_that_nobody_took(tmp_path, monkeypatch):
+@pytest.mark.parametrize("engine", ["parallel", "processes"])
+def test_lists_that_nobody_took(tmp_path, monkeypatch, engine):
     """Both processes that run tasks are killed on their last try: what they had is named, what they had not is done."""
-    monkeypatch.setattr(sys.modules["gandovel.many.engines.parallel"], "jobs_of", lambda *_: [[at] for at in range(4)])
+    monkeypatch.setattr(sys.modules[f"gandovel.many.engines.{engine}"], "jobs_of", lambda *_: [[at] for at in range(4)])
     once = '{ mkdir "$city/../one" || mkdir "$city/../two"; } 2> /dev/null'
     program(tmp_path, monkeypatch, f"{once} && {{ kill -9 {PARENT}; sleep 600; }}")
-    summary = run_many(write_cities(tmp_path, 4), tmp_path / "out", "parallel", jobs=2, retries=0)
+    summary = run_many(write_cities(tmp_path, 4), tmp_path / "out", engine, jobs=2, retries=0)
     assert sorted(it.code for it in summary.verdicts) == ["", "", "T4", "T4"]
     assert len(list((tmp_path / "out/engine/1-cities/alone").glob("?.txt"))) == 2
     until(lambda: not processes_of(tmp_path / "in"))
@@ -584,12 +586,14 @@ def test_engines_that_are_not_there(tmp_path, monkeypatch):
     (tmp_path / "bin").mkdir()
     monkeypatch.setenv("PATH", str(tmp_path / "bin"))
     for engine, words in (
-        ("parallel", "GNU parallel is not there"),
-        ("slurm", "sbatch is not on PATH"),
+        ("parallel", "GNU parallel is not there: install the package parallel, or say --engine processes"),
+        ("slurm", "sbatch is not on PATH: install the package slurm-client"),
         ("none", "no engine none"),
     ):
         with pytest.raises(Refused, match=f"T7 .*{words}"):
             run_many(manifest, tmp_path / "out", engine)
+    assert run_many(manifest, tmp_path / "default").status == 0
+    assert json.loads((tmp_path / "default/many.json").read_text())["engine"] == "processes"
     (tmp_path / "bin/parallel").write_text("#!/bin/sh\necho parallel of moreutils\n")
     (tmp_path / "bin/parallel").chmod(0o755)
     with pytest.raises(Refused, match="T7 .*not GNU parallel"):

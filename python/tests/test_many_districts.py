@@ -176,7 +176,7 @@ def test_a_layer_of_districts_that_does_not_tile(tmp_path):
 def test_districts_that_the_layer_or_the_manifest_lacks(tmp_path):
     rows = row_of_districts(tmp_path / "in", 3)
     run = run_many(write_manifest(tmp_path, rows[:-1]), tmp_path / "out", retries=0)
-    assert run.wholes[0].said == "open: the manifest has no row for district 3 of 3" and run.status == 2
+    assert run.wholes[0].said == "open: the manifest has no row for district 3 of 3" and run.status == 3
     assert (
         "metropolis,open,open,,the manifest has no row for district 3 of 3,"
         in (tmp_path / "out/summary.csv").read_text()
@@ -204,7 +204,7 @@ def test_numbers_of_districts(tmp_path):
         number_them(tmp_path / f"in/d{at}/parcels.shp", numbers)
     manifest = write_manifest(tmp_path, rows)
     summary = run_many(manifest, tmp_path / "out")
-    assert summary.wholes[0].said == "open: parcels have the same number: a (d0, d1)" and summary.status == 2
+    assert summary.wholes[0].said == "open: parcels have the same number: a (d0, d1)" and summary.status == 3
     parcels = read_rings(tmp_path / "in/d0/parcels.shp")
     parcels[1][parcels[1][:, 0] == 2 * SIDE, 0] += GAP
     write_rings(tmp_path / "in/d0/parcels.shp", parcels)
@@ -231,7 +231,7 @@ PLANTED = {
     "moved": ("does not tile: 2 of 3 districts tile; not d1 (H2); parcel record 2 crosses districts d1 and d2", 1),
     "a centimetre in the layer of districts": ("does not tile: the layer of districts does not (H2); 2 of 3", 1),
     "doubled": ("does not tile: 2 of 3 districts tile; not d1 (H2); parcel record 1 crosses districts d1 and d0", 1),
-    "missing": ("open: the manifest has no row for district 2 of 3", 2),
+    "missing": ("open: the manifest has no row for district 2 of 3", 3),
     "a T junction at a border": ("tiles: 13 parcels of 3 districts", 0),
 }
 
@@ -339,7 +339,7 @@ def test_an_overlay_that_has_no_answer_leaves_the_city_open(tmp_path, monkeypatc
     program(tmp_path, monkeypatch, 'case "$1 $2" in overlay*/frames/d1/*) kill -9 $$;; esac')
     summary = run_many(write_manifest(tmp_path, with_zones(tmp_path / "in", 3)), tmp_path / "out", retries=0)
     assert summary.wholes[0].said == "open: not overlaid: d1 (T4 the program was killed by signal 9)"
-    assert summary.status == 2 and verdicts(summary)["d1"] == ("tiles", "")
+    assert summary.status == 3 and verdicts(summary)["d1"] == ("tiles", "")
     monkeypatch.undo()
     summary = run_many(tmp_path / "manifest.csv", tmp_path / "out", resume=True)
     assert summary.wholes[0].tiles and summary.wholes[0].pairs == len(pairs_of_one_layer(tmp_path / "in", 3))
@@ -391,7 +391,7 @@ def test_zones_that_were_cut_make_up_their_zone(tmp_path):
     frame.assign(zone=frame.zone.tolist()[::-1]).to_file(tmp_path / "other.shp")
     (tmp_path / "other.dbf").rename(tmp_path / "in/d1/pieces.dbf")
     summary = run_many(tmp_path / "manifest.csv", out)
-    assert summary.wholes[0].kind == "open" and summary.status == 2
+    assert summary.wholes[0].kind == "open" and summary.status == 3
     assert summary.wholes[0].said.startswith("open: the pieces in its districts do not make up zones: A, C")
 
 

@@ -157,7 +157,7 @@ def test_the_whole_does_not_tile(name):
     kind = ("refused", "H2") if refused else ("open", "open")
     assert (whole.verdict.verdict, whole.verdict.code, whole.parcels, whole.area2) == (*kind, None, None)
     summary = Summary([layer, *districts], [whole])
-    assert (summary.verdicts[0].verdict, summary.status) == (kind[0], 1 if refused else 2)
+    assert (summary.verdicts[0].verdict, summary.status) == (kind[0], 1 if refused else 3)
 
 
 def test_the_whole_tiles():

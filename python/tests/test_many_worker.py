@@ -2,6 +2,7 @@
 from __future__ import annotations
 
 import asyncio
+import hashlib
 import os
 import signal
 import subprocess
@@ -13,12 +14,13 @@ from pathlib import Path
 import pytest
 
 import gandovel
-from gandovel.many import read_manifest, results, worker
+from gandovel.many import read_manifest, results
 from gandovel.many.engines import Settings
 from gandovel.many.engines import dask as dask_engine
 from gandovel.many.engines.base import worker_words
 from gandovel.many.engines.jobs import write_jobs
 from gandovel.many.tasks import Batch, Limits, find_program, task_of
+from gandovel.many.worker import files, task
 from many_cities import SOURCES, calls, names_in, processes_of, program, until, write_cities
 
 TEXT = bytes(range(256)) * 9000
@@ -51,60 +53,59 @@ CHANGES = {
 }
 
 
-@pytest.mark.parametrize("room", [0, len(TEXT) - 1, len(TEXT)])
 @pytest.mark.parametrize("how", sorted(CHANGES))
-def test_a_file_is_compared_by_all_its_bytes(tmp_path, how, room):
+def test_a_file_is_compared_by_all_its_bytes(tmp_path, how):
     path = tmp_path / "file"
     path.write_bytes(TEXT)
-    before = worker.read_input(str(path), room)
-    assert (before.content is not None) == (room == len(TEXT)) and before.checked == worker.checked(str(path))
-    assert worker.is_unchanged(str(path), before)
+    before = files.read_input(str(path))
+    assert before.checked == files.checked(str(path)) and before.checked.sha256 == hashlib.sha256(TEXT).hexdigest()
+    assert files.is_unchanged(str(path), before)
     CHANGES[how](path)
-    assert not worker.is_unchanged(str(path), before)
+    assert not files.is_unchanged(str(path), before)
 
 
 def test_a_file_that_was_not_there(tmp_path):
     path = tmp_path / "file"
-    before = worker.read_input(str(path), worker.HELD)
-    assert before == worker.Input(None) and worker.is_unchanged(str(path), before)
+    before = files.read_input(str(path))
+    assert before == files.Input(None) and files.is_unchanged(str(path), before)
     path.write_bytes(b"")
-    assert not worker.is_unchanged(str(path), before)
+    assert not files.is_unchanged(str(path), before)
 
 
 @pytest.mark.parametrize("how", sorted(CHANGES))
 def test_a_settled_file_is_compared_by_its_stamp(tmp_path, monkeypatch, how):
     path = tmp_path / "file"
     path.write_bytes(TEXT)
-    assert not worker.read_input(str(path), worker.HELD, False).settled, "it was written just now"
-    monkeypatch.setattr(worker, "SETTLED", -60.0)
-    before = worker.read_input(str(path), worker.HELD, False)
+    assert files.read_input(str(path), False).checked.sha256, "it was written just now"
+    monkeypatch.setattr(files, "SETTLED", -60.0)
+    before = files.read_input(str(path), False)
     told = before.told()
-    assert before.settled and before.content is None and told["stamp"] == worker.stamp_of(path.stat())
+    assert before.checked.sha256 is None and told["stamp"] == files.stamp_of(path.stat())
     time.sleep(0.05)
-    assert worker.is_unchanged(str(path), before) and results._is_same(str(path), "another", told["stamp"])
+    assert files.is_unchanged(str(path), before) and results._is_same(str(path), "another", told["stamp"])
     CHANGES[how](path)
-    assert not worker.is_unchanged(str(path), before) and not results._is_same(str(path), "another", told["stamp"])
+    assert not files.is_unchanged(str(path), before) and not results._is_same(str(path), "another", told["stamp"])
 
 
 def test_a_program_is_read_once_and_again_when_it_changed(tmp_path, monkeypatch):
     path, read = tmp_path / "program", []
     path.write_bytes(b"one")
-    monkeypatch.setattr(worker, "_programs", {})
-    monkeypatch.setattr(worker, "checked", lambda it, really=worker.checked: (read.append(it), really(it))[1])
-    task = {"command": [str(path)], "program": {"sha256": worker.checked(str(path)).sha256}}
+    monkeypatch.setattr(files, "_programs", {})
+    monkeypatch.setattr(files, "checked", lambda it, really=files.checked: (read.append(it), really(it))[1])
+    asked = {"command": [str(path)], "program": {"sha256": files.checked(str(path)).sha256}}
     for _ in range(2):
-        worker.test_program(task)
+        task.test_program(asked)
     assert len(read) == 3, "what was written just now may change again and keep its time"
-    monkeypatch.setattr(worker, "SETTLED", -60.0)
+    monkeypatch.setattr(files, "SETTLED", -60.0)
     for _ in range(3):
-        worker.test_program(task)
+        task.test_program(asked)
     assert len(read) == 4
     at_the_same_time(path, lambda: path.write_bytes(b"two"))
-    with pytest.raises(worker.Failed, match="not the program that the run began with"):
-        worker.test_program(task)
+    with pytest.raises(task.Failed, match="not the program that the run began with"):
+        task.test_program(asked)
     path.unlink()
-    with pytest.raises(worker.Failed, match="is not there"):
-        worker.test_program(task)
+    with pytest.raises(task.Failed, match="is not there"):
+        task.test_program(asked)
 
 
 def batch_of(folder, count):
@@ -122,7 +123,7 @@ def test_a_list_of_tasks_that_is_asked_to_stop(tmp_path, monkeypatch):
     process = subprocess.Popen([*worker_words(str(job)), "--with-parent"])
     until(lambda: "c2" in calls(tmp_path))
     process.send_signal(signal.SIGTERM)
-    assert process.wait(60) == worker.STATUS["T4"]
+    assert process.wait(60) == task.STATUS["T4"]
     assert calls(tmp_path) == ["c0", "c1", "c2"] and names_in(tmp_path / "cities") == {"c0", "c1"}
     until(lambda: not processes_of(tmp_path / "in"))
 
@@ -167,22 +168,33 @@ def test_the_names_of_the_package():
 
 
 ORPHAN = """
-import os, signal
-from gandovel.many import worker
-worker._prctl()(worker.ON_LINUX_TAKE_ORPHANS, 1, 0, 0, 0)
+import os, signal, sys
+from gandovel.many.worker import task
 child = os.fork()
 if child == 0:
-    os.posix_spawn("/bin/sleep", ["sleep", "600"], os.environ, setpgroup=0)
+    started = task._started(["/bin/sleep", "600"], sys.stdout, None)
+    print(started.pid, flush=True)
     os.kill(os.getpid(), signal.SIGKILL)
 os.waitpid(child, 0)
-assert len(worker._children()) == 1
-worker._end_orphans(None)
-assert worker._children() == []
 """
 
 
 def test_a_program_that_nobody_named_ends():
     """Its task's process was killed before it could say which program it had started."""
-    subprocess.run(
-        [sys.executable, "-c", ORPHAN], check=True, timeout=60, env={**os.environ, "PYTHONPATH": str(SOURCES)}
+    told = subprocess.check_output(
+        [sys.executable, "-c", ORPHAN], timeout=60, env={**os.environ, "PYTHONPATH": str(SOURCES)}, text=True
     )
+    until(
+        lambda: not Path(f"/proc/{int(told)}").exists() or "Z" in Path(f"/proc/{int(told)}/stat").read_text().split()[2]
+    )
+
+
+def test_the_peak_memory_is_that_of_one_program(tmp_path):
+    """A program that takes little after one that took much: no more is told than what these tests have themselves."""
+    used = []
+    for size in (600_000_000, 1):
+        words = [sys.executable, "-I", "-S", "-c", f"bytes({size}) and None or b'x' * {size}"]
+        ended = task.run_program({"timeout": 60, "memory_kb": None}, words, str(tmp_path / "out"))
+        assert (ended.status, ended.timed_out, ended.errors) == (0, False, b"")
+        used.append(ended.memory_kb)
+    assert used[0] > 550_000 and used[1] < 300_000

@@ -2,6 +2,7 @@
 advice."""
 from __future__ import annotations
 
+import json
 from fractions import Fraction
 
 import geopandas as gpd
@@ -9,7 +10,7 @@ import numpy as np
 import pandas as pd
 import pytest
 from shapely.affinity import translate
-from shapely.geometry import MultiPoint, Point, Polygon, box
+from shapely.geometry import LineString, MultiPoint, Point, Polygon, box
 
 import gandovel as gv
 from gandovel.exact.whole_numbers import texts_of, whole_numbers
@@ -41,6 +42,12 @@ def two_towns():
     frame = plots()
     away = frame.assign(parcel_no=[8, 5, 7, 6]).set_geometry([translate(it, 500) for it in frame.geometry])
     return gpd.GeoDataFrame(pd.concat([frame, away], ignore_index=True), crs=CRS)
+
+
+def opened(frame, call):
+    """What a call says of the frame's register, which is opened for it."""
+    with gv.open(frame) as register:
+        return call(register)
 
 
 @pytest.fixture(scope="module")
@@ -244,6 +251,59 @@ RUNS = {
     "accessor locate": lambda h: h.gandovel.locate((5, 5)).parcel_no.iloc[0] == 4,
     "accessor mend": lambda h: h.gandovel.mend(1.0).verdict.tiles,
     "accessor apply": lambda h: len(h.gandovel.apply(gv.Merge(4, 1))) == 3,
+    "join": lambda h: h.join(gv.area(h)[["area_m2"]]).area_m2.tolist() == [100] * 4,
+    "pipe": lambda h: h.pipe(gv.area).area_m2.sum() == 400 and h.pipe(gv.check, number="parcel_no").empty,
+    "as int": lambda h: gv.area(h).area2_mm2.astype(int).sum() == 8 * 10**8,
+    "named aggregation": lambda h: gv.overlay(h, zones(), zone="plan")
+    .groupby("plan")
+    .agg(m2=("area_m2", "sum"), many=("parcel_no", "nunique"))
+    .to_dict()
+    == {"m2": {100: 150, 200: 250}, "many": {100: 2, 200: 3}},
+    "unstack": lambda h: gv.overlay(h, zones(), zone="plan")
+    .set_index(["parcel_no", "plan"])
+    .area_m2.unstack(fill_value=0)
+    .loc[4]
+    .tolist()
+    == [100, 0],
+    "apply by group": lambda h: h.groupby("use").apply(lambda it: gv.area(it).area_m2.sum()).to_dict()
+    == dict.fromkeys("abcd", 100),
+    "explode": lambda h: gv.check(broken())
+    .assign(number=lambda it: it.numbers.str.split(","))
+    .explode("number")
+    .number.tolist()
+    == ["4", "1"],
+    "faults to json": lambda h: '"numbers": "4,1"' in gv.check(broken()).to_json(),
+    "own frame unchanged": lambda h: gv.area(h) is not h and "area_m2" not in h.columns,
+    "centroids": lambda h: gv.locate(h, h.representative_point()).parcel_no.tolist() == h.parcel_no.tolist(),
+    "points from xy": lambda h: gv.locate(h, gpd.points_from_xy([5, 25], [5, 5])).parcel_no.tolist() == [4, 3],
+    "columns x and y": lambda h: gv.locate(
+        h, pd.DataFrame({"x": [5, 25], "y": [5, 5]}, index=["p", "q"])
+    ).parcel_no.to_dict()
+    == {"p": 4, "q": 3},
+    "a MultiPoint": lambda h: gv.locate(h, MultiPoint([(5, 5), (25, 5)])).parcel_no.tolist() == [4, 3],
+    "a generator of points": lambda h: gv.locate(h, ((x, 5) for x in (5, 25))).parcel_no.tolist() == [4, 3],
+    "no points": lambda h: gv.locate(h, []).empty,
+    "a generator of edits": lambda h: "3,2" in set(gv.apply(h, (gv.Merge(*it) for it in [(3, 2)])).came_from),
+    "places as shapes": lambda h: gv.apply(
+        h,
+        [
+            gv.Insert(Point(30, 0), Point(20, 0), Point(25, 0)),
+            gv.Insert((20, 10), np.array([30, 10]), [25, 10]),
+            gv.Split(3, LineString([(25, 0), (25, 10)])),
+        ],
+    )
+    .area.sort_values()
+    .tolist()
+    == [50, 50, 100, 100, 100],
+    "verdict in json": lambda h: json.dumps({"verdict": gv.report(h).verdict}) == '{"verdict": "tiles"}',
+    "verdict in a set": lambda h: gv.report(h).verdict in {"tiles"},
+    "open": lambda h: gv.open(gv.prepare(h)).close() == 0,
+    "open and frame": lambda h: opened(h, lambda it: it.parcels.merge(h, on="parcel_no").shape[0] == 4),
+    "open and edit": lambda h: opened(h, lambda it: (it.edit(gv.Merge(3, 2)).number, len(it.parcels)) == (1, 3)),
+    "open and locate": lambda h: opened(
+        h, lambda it: it.locate(h.representative_point()).parcel_no.tolist() == [4, 1, 3, 2]
+    ),
+    "accessor open": lambda h: h.gandovel.open().close() == 0,
     "accessor prepare": lambda h: len(h.gandovel.prepare(zones(), touch=0).zone_names) == 2,
 }
 
@@ -295,6 +355,29 @@ RAISES = {
     "a line in two towns": (lambda h: gv.apply(two_towns(), "merge 1 2"), gv.Refused, "say which one by island="),
     "an island that is none": (lambda h: gv.apply(h, [], island=2), gv.Refused, "P13 part 2 of the city is not there"),
     "degrees": (lambda h: gv.area(h.to_crs(4326)), gv.Refused, "P7"),
+    "edits in a dictionary": (lambda h: gv.apply(h, {"merge": (3, 2)}), TypeError, "a sequence of these, is wanted"),
+    "a line that is none": (
+        lambda h: gv.apply(h, ["merge 1 2", "merge 3"]),
+        gv.Refused,
+        "L1 edit 2, 'merge 3', is no line of a clerk's file",
+    ),
+    "several edits in one": (lambda h: opened(h, lambda it: it.edit([gv.Merge(3, 2)])), TypeError, "no edit"),
+    "a folder that is not there": (lambda h: gv.open(h, "no/journal"), gv.JournalRefused, "in a folder that is there"),
+    "numbers with gaps": (
+        lambda h: gv.area(h.assign(parcel_no=[1, 2, 3, None])),
+        gv.Refused,
+        "P3 row 4 has no parcel_no .*: give each row a parcel_no",
+    ),
+    "the key in the index": (
+        lambda h: gv.area(h.set_index("parcel_no")),
+        gv.Refused,
+        "P2 there is no column parcel_no",
+    ),
+    "a frame without places": (
+        lambda h: gv.locate(h, pd.DataFrame({"lon": [5], "lat": [5]})),
+        TypeError,
+        "a frame with x and y",
+    ),
     "an edit that is none": (lambda h: gv.apply(h, [("merge", 1, 2)]), TypeError, "no edit"),
 }
 
@@ -306,9 +389,9 @@ def test_raises_with_advice(h, call):
         made(h)
 
 
-def test_there_are_84():
+def test_there_are_84_and_30_of_our_own():
     others = 8 + len(PLACES)  # the functions by path, frame and register; the ways to name a place
-    assert len(RUNS) + len(RAISES) + others >= 84
+    assert len(RUNS) + len(RAISES) + others >= 84 + 30
 
 
 def test_a_hole_is_a_gap_and_no_part_of_the_area():

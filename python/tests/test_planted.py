@@ -19,12 +19,7 @@ from planted import CASES, Counts, case, drawn, projected, reshaped, rounded, wi
 
 LAYERS = 1000 if os.environ.get("GANDOVEL_FULL") else 100
 EACH = -(-LAYERS // len(CASES))
-FILES = ("File Geodatabase", "degrees", "feet", "hundredths of feet", "a curve")
-
-
-COARSE = ("decimetres", "50 mm")
-"""Where corners are rounded so far, a corner may touch two sides of a parcel at once: it is left alone, and a sliver is
-reported beside it (1 of 8 layers of each). Gaps and overlaps are as planted there, too."""
+FILES = ("File Geodatabase", "degrees", "feet", "hundredths of feet", "a curve", "arcs between neighbours")
 
 
 @pytest.mark.parametrize("name", CASES)
@@ -41,8 +36,6 @@ def test_what_is_planted_is_found_and_nothing_else(name, tmp_path):
             undecided.append(seed)
             report = gv.report(gv.prepare(made.source, touch=made.distance, **made.options))
         found = report.faults()
-        if name in COARSE:
-            found = found[found.kind != "sliver"]
         counts = made.judged((kind, numbers.split(",")) for kind, numbers in zip(found.kind, found.numbers))
         assert (counts.missed, counts.false) == (0, 0), f"{name}, seed {seed}: {counts}"
         assert report.verdict == ("does not tile" if made.planted else "tiles")

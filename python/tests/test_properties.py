@@ -7,7 +7,7 @@ import geopandas as gpd
 import numpy as np
 import pytest
 from hypothesis import HealthCheck, given, settings, strategies as st
-from shapely.errors import TopologicalError
+from shapely.errors import ShapelyError
 from shapely.geometry import MultiPoint, Polygon
 
 import gandovel as gv
@@ -16,7 +16,7 @@ from gandovel.faults.polygons import faults_of
 from gandovel.exact.grid import twice_area as ring_area
 from gandovel.exact.holes import cut_holes
 from gandovel.exact.noding import points_of
-from gandovel.shapes import _common_parts, bounds_of, box_of, common_parts, shapes_of
+from gandovel.shapes import bounds_of, box_of, common_parts, shapes_of
 
 FEW = settings(max_examples=12, deadline=None, suppress_health_check=list(HealthCheck))
 MANY = settings(max_examples=60, deadline=None, suppress_health_check=list(HealthCheck))
@@ -154,14 +154,13 @@ def from_least(ring):
     )
 )
 def test_common_parts_are_those_of_shapely(corners):
-    """By GEOS' own pointers as by Shapely's shapes, lines and points and nothing in common too; and so the box
-    around."""
+    """Lines and points and nothing in common too; and so the box around."""
     shapes = [MultiPoint(some).convex_hull for some in corners]
     blobs = [shape.wkb for shape in shapes]
     pairs = [(i, j) for i in range(len(shapes)) for j in range(len(shapes))]
     parts, areas = common_parts(blobs, blobs, pairs)
-    expected, expected_areas = _common_parts(blobs, blobs, pairs)
-    assert parts == expected and areas.tolist() == expected_areas.tolist()
+    cuts = [shapes[i].intersection(shapes[j]) for i, j in pairs]
+    assert parts == [cut.wkb for cut in cuts] and areas.tolist() == [cut.area for cut in cuts]
     assert [shape.area for shape in shapes_of(parts)] == areas.tolist()
     polygons = [shape for shape in shapes if shape.geom_type == "Polygon"]
     assert not polygons or box_of(shape.wkb for shape in polygons) == bounds_of(polygons)
@@ -169,7 +168,7 @@ def test_common_parts_are_those_of_shapely(corners):
 
 def test_a_shape_that_can_not_be_cut_is_told_by_shapely():
     bowtie = Polygon([(0, 0), (2, 2), (2, 0), (0, 2)]).wkb
-    with pytest.raises(TopologicalError):
+    with pytest.raises(ShapelyError):
         common_parts([bowtie], [Polygon([(0, 1), (3, 1), (3, 3)]).wkb], [(0, 0)])
 
 

@@ -23,7 +23,7 @@ from gandovel.live.journals import Said
 from gandovel.live.answers import Accepted
 from gandovel.serve.entries import Asked, Entry
 from gandovel.serve.register import Deadline, Fate, Register
-from gandovel.serve.tail import Tail
+from gandovel.live.tail import Tail
 from gandovel.program.tool import find_tool
 from served import LONG, SECONDS, Served, environment, moved, prepared, replayed, until
 from session_register import grid_city

@@ -164,9 +164,9 @@ def test_a_map_of_what_is_no_report(tmp_path):
     for name in ("p.gpkg", "text.gpkg", "none.gpkg"):
         ended = command("map", name, "--out", "m.html", cwd=tmp_path)
         (line,) = ended.stderr.splitlines()
-        assert ended.returncode == 1 and line.startswith("error: P1 ") and not (tmp_path / "m.html").exists()
+        assert ended.returncode == 4 and line.startswith("error: P1 ") and not (tmp_path / "m.html").exists()
     ended = command("map", "p.gpkg", "--out", "p.gpkg", cwd=tmp_path)
-    assert ended.returncode == 1 and "P14 p.gpkg is read, and would be written over" in ended.stderr
+    assert ended.returncode == 4 and "P14 p.gpkg is read, and would be written over" in ended.stderr
 
 
 def test_the_verdict_says_whence_the_city_is():
@@ -202,8 +202,14 @@ def test_curves_and_measures(tmp_path):
         )
     pytest.importorskip("osgeo")
     frame = read_layer(tmp_path / "arc.gpkg", "parcels")
-    assert frame.attrs["lost"][0] == "parcels: curves were made straight by GDAL"
-    assert len(frame.geometry[0].exterior.coords) > 50
+    (told,) = frame.attrs["lost"]
+    assert told == "parcels: 2 arcs were read as 512 chords, off by 1 mm at most (a tenth of the grid)"
+    centre, corners = np.array([561010.0, 5934000.0]), np.array(frame.geometry[0].exterior.coords)
+    middles = (corners[1:] + corners[:-1]) / 2
+    assert np.abs(np.hypot(*(corners - centre).T) - 10).max() < 1e-8
+    assert 0.0001 < (10 - np.hypot(*(middles - centre).T)).max() <= 0.001
+    line = gv.report(gv.prepare(tmp_path / "arc.gpkg", number="id")).basis.line()
+    assert "2 arcs read as 512 chords, 1 mm off at most; " in line
     assert any("measures (M)" in text for text in read_layer(tmp_path / "m.gpkg", "parcels").attrs["lost"])
 
 
@@ -295,7 +301,7 @@ def test_many_rows_are_read_as_few_are(tmp_path, monkeypatch):
 def test_a_report_is_a_geopackage(tmp_path, name):
     two().to_file(tmp_path / "p.gpkg", driver="GPKG")
     ended = command("report", "p.gpkg", "--out", name, cwd=tmp_path)
-    assert ended.returncode == 1 and "error: P14" in ended.stderr and not (tmp_path / name).exists()
+    assert ended.returncode == 4 and "error: P14" in ended.stderr and not (tmp_path / name).exists()
     with pytest.raises(gv.Refused, match="P14"):
         gv.report(gv.prepare(two())).save(tmp_path / name)
 

@@ -88,7 +88,7 @@ def package_side(request: Answer, folder: str, watcher: Watcher) -> Answer:
 def _answer_of(ended: Ended) -> Answer:
     answer = _object_of(ended.printed)
     errors = [line for line in ended.errors if line.startswith("error: ")]
-    if answer is not None and "refused" not in answer and ended.status in (0, 1, 2) and not errors:
+    if answer is not None and "refused" not in answer and ended.status in (0, 1, 3) and not errors:
         return answer
     refusals = [_refusal_of(row) for row in (answer or {}).get("refused", [])] or [_of_line(line) for line in errors]
     if any(refusal.code == "T1" for refusal in refusals):

@@ -26,6 +26,7 @@ if TYPE_CHECKING:
         NoWindow,
         NoZones,
         OperatorsOnly,
+        PartlyMade,
         ProgramEnded,
         Refused,
         RefusedEdit,
@@ -36,7 +37,9 @@ if TYPE_CHECKING:
     from .faults.mend import Mended, mend
     from .live.answers import Accepted, Outline, Overlaps, Place, Tiling
     from .live.journals import Journal, JournalRecord, read_journal
+    from .live.open_register import OpenRegister, open
     from .live.session import Desk, Session
+    from .live.transaction import Transaction
     from .out.exports import back
     from .out.report import Report, report
     from .out.verdict import Verdict
@@ -69,8 +72,10 @@ __all__ = [
     "NoWindow",
     "NoZones",
     "OperatorsOnly",
+    "OpenRegister",
     "Outline",
     "Overlaps",
+    "PartlyMade",
     "Place",
     "Prepared",
     "ProgramEnded",
@@ -84,6 +89,7 @@ __all__ = [
     "Straighten",
     "Tiling",
     "TimedOut",
+    "Transaction",
     "Verdict",
     "apply",
     "area",
@@ -92,6 +98,7 @@ __all__ = [
     "load",
     "locate",
     "mend",
+    "open",
     "overlay",
     "prepare",
     "read_journal",
@@ -102,11 +109,13 @@ __version__ = "1.1.0"
 _NAMES = {
     "faults.mend": "Mended mend",
     "errors": "BadAnswer CardsMissing DeskTaken JournalBroken JournalInUse JournalRefused NoCard NoMemory NoSuchLine "
-    "NoVersion NoWindow NoZones OperatorsOnly ProgramEnded Refused RefusedEdit SessionClosed SessionError "
-    "TimedOut",
+    "NoVersion NoWindow NoZones OperatorsOnly PartlyMade ProgramEnded Refused RefusedEdit SessionClosed "
+    "SessionError TimedOut",
     "live.answers": "Accepted Outline Overlaps Place Tiling",
     "live.journals": "Journal JournalRecord read_journal",
+    "live.open_register": "OpenRegister open",
     "live.session": "Desk Session",
+    "live.transaction": "Transaction",
     "out.exports": "back",
     "out.report": "Report report",
     "out.verdict": "Verdict",

@@ -11,6 +11,8 @@ import geopandas as gpd
 import pandas as pd
 
 from .faults.mend import Mended, mend
+from .live import open_register
+from .live.open_register import OpenRegister
 from .out.report import Report, report
 from .program import applied, commands
 from .program.edits import Edit
@@ -62,6 +64,18 @@ class Accessor:
     ) -> gpd.GeoDataFrame:
         """The parcels after edits, as `gandovel.apply`."""
         return applied.apply(self._frame, edits, island, **options)
+
+    def open(
+        self,
+        journal: Optional[Union[str, Path]] = None,
+        *,
+        island: Optional[int] = None,
+        desks: Sequence[str] = (),
+        timeout: Optional[float] = None,
+        **options: Unpack[Options],
+    ) -> OpenRegister:
+        """The parcels as a register that stays open, as `gandovel.open`."""
+        return open_register.open(self._frame, journal, island=island, desks=desks, timeout=timeout, **options)
 
     def map(
         self,

@@ -1,4 +1,4 @@
-"""The command `gandovel`: prepare, check, report, overlay, locate, mend, map, back, many, serve, backup, journal."""
+"""The command `gandovel`: its commands, and how each ends. What several share is in `reading/command_options.py`."""
 from __future__ import annotations
 
 import argparse
@@ -11,53 +11,23 @@ from typing import TYPE_CHECKING, Any, Callable, Dict, List, Optional
 
 from . import __version__
 from .errors import Refused
+from .explain_command import add_explain, run_explain
 from .large.options import add_options, cut_as_told
 from .live.journal_command import add_journal, run_journal
 from .many.command import add_command, run_command
+from .program.apply_command import add_apply, run_apply
+from .program.question_commands import run_locate, run_overlay
+from .reading.command_options import answering, asked_about, prepared_of, preparing, read_of, say_lost
 from .serve.command import add_commands, run_backup, run_serve
 
 if TYPE_CHECKING:
     from .out.report import Report
     from .progress import Progress
-    from .reading.prepared import Prepared
 
+NO_ANSWER = 4
+"""The status of a command that gave no answer."""
 ENDED_BY_USER = 130
 """The status of a command that its user interrupted."""
-
-
-def _preparing(command: argparse.ArgumentParser) -> None:
-    """The options of a command that prepares layers."""
-    add = command.add_argument
-    add("--zones", metavar="LAYER", help="the zones, in the parcels' projection")
-    add("--number", metavar="COLUMN", default="parcel_no", help="the parcels' own numbers (parcel_no), or ROW")
-    add("--zone", metavar="COLUMN", help="the zones' names (zone, else the column of --number, else ROW)")
-    add("--city", metavar="LAYER", help="the city's outline; without it, what the parcels cover")
-    add("--neighbours", metavar="LAYER", help="the cities beside it: what parcels cover of one is reported")
-    for name in ("", "zones-", "city-", "neighbours-"):
-        add(f"--{name}layer", metavar="NAME", help="the layer, where its source has several")
-    add("--frame", action="store_true", help="a frame as the city, with a parcel and a zone OUT; zones uncut")
-    add("--unit", metavar="UNIT", help="m, mm, cm, dm, km, ft, us-ft, or metres: where the projection does not say it")
-    add("--max-move", metavar="MM", type=float, default=1.0, help="refuse to move a corner farther (1)")
-    add("--grid", metavar="MM", type=float, help="the step that coordinates are rounded to (it is found)")
-    add("--touch", metavar="MM", type=float, help="a corner this near to a border touches it (1.42 times the grid)")
-    add("--narrow", metavar="M", type=float, default=1.0, help="what is open to the outside and narrower is told (1)")
-    add("--skip-invalid", action="store_true", help="go on without rows whose geometry is invalid")
-
-
-def _answering(command: argparse.ArgumentParser) -> None:
-    """The options of a command that answers other programs, too."""
-    forms = command.add_mutually_exclusive_group()
-    forms.add_argument("--json", action="store_true", help="one JSON object on standard output")
-    forms.add_argument("--csv", action="store_true", help="a table on standard output")
-
-
-def _asked_about(command: argparse.ArgumentParser, may_be_missing: bool = False) -> None:
-    """The register that a command asks about."""
-    what = "what prepare wrote, or the parcels' layer"
-    if may_be_missing:
-        command.add_argument("source", metavar="FOLDER|PARCELS", nargs="?", help=what)
-    else:
-        command.add_argument("source", metavar="FOLDER|PARCELS", help=what)
 
 
 def _add_questions(commands: Any) -> None:
@@ -67,10 +37,10 @@ def _add_questions(commands: Any) -> None:
     overlay = commands.add_parser("overlay", help="which parcels lie in which zones, printed")
     locate = commands.add_parser("locate", help="in which parcels points lie, printed")
     for command in (check, report, overlay, locate):
-        _asked_about(command, may_be_missing=command is check)
-        _preparing(command)
+        asked_about(command, may_be_missing=command is check)
+        preparing(command)
         add_options(command)
-        _answering(command)
+        answering(command)
     for command in (check, report):
         command.add_argument("--strict", action="store_true", help=argparse.SUPPRESS)  # what is always so by now
         command.add_argument("--known", metavar="FILE", help="an earlier report: its faults don't count for the status")
@@ -91,20 +61,21 @@ def parser() -> argparse.ArgumentParser:
     top = argparse.ArgumentParser(
         prog="gandovel",
         description="Parcel layers of a GIS to the proved verdict and back.",
-        epilog="Status: 0 done; 1 refused (one line `error: ..`), or what does not tile; 2 a command line not "
-        "understood, or an open verdict.",
+        epilog="Status: 0 done, or the parcels tile; 1 they do not, or an edit is refused; 2 the command line is not "
+        "understood; 3 the verdict is open; 4 something can't be read, run or written. `serve` and `backup` end with 1 "
+        "for any refusal. A refusal is one line `error: ..`; `gandovel explain CODE` says more.",
     )
     top.add_argument("--version", action="version", version=f"gandovel {__version__}")
     commands = top.add_subparsers(dest="command", required=True)
     prepare = commands.add_parser("prepare", help="layers of a GIS to whole millimetres")
     prepare.add_argument("source", metavar="PARCELS", help="the parcels: whatever GDAL reads")
-    _preparing(prepare)
+    preparing(prepare)
     prepare.add_argument("--out", required=True, metavar="FOLDER", help="the folder to write")
     _add_questions(commands)
     mend = commands.add_parser("mend", help="the parcels without their slivers, as a GeoPackage")
     mend.add_argument("source", metavar="FOLDER|PARCELS", help="what prepare wrote, or the parcels' layer")
-    _preparing(mend)
-    _answering(mend)
+    preparing(mend)
+    answering(mend)
     mend.add_argument("--width", metavar="MM", type=float, default=1.0, help="nothing wider is closed (1)")
     mend.add_argument(
         "--to",
@@ -114,6 +85,7 @@ def parser() -> argparse.ArgumentParser:
         "layer, or a row of its own",
     )
     mend.add_argument("--out", required=True, metavar="MENDED.gpkg", help="the GeoPackage to write")
+    add_apply(commands)
     page = commands.add_parser("map", help="a report as one page to look at")
     page.add_argument("report", metavar="REPORT.gpkg")
     page.add_argument("--out", required=True, metavar="MAP.html")
@@ -124,50 +96,8 @@ def parser() -> argparse.ArgumentParser:
     add_command(commands)
     add_commands(commands)
     add_journal(commands)
+    add_explain(commands)
     return top
-
-
-def _prepared(options: argparse.Namespace, progress: Progress) -> Prepared:
-    """The register that is asked about: a folder that `prepare` wrote, or layers that are prepared now."""
-    from .reading.options import test_no_option
-    from .reading.prepare import prepare
-    from .reading.prepared import load
-
-    if options.command != "prepare" and os.path.isfile(os.path.join(options.source, "prepared.json")):
-        prepared = load(options.source)
-        test_no_option(prepared, vars(options), options.source)
-        return prepared
-    return prepare(
-        options.source,
-        options.zones,
-        options.number,
-        options.zone,
-        options.city,
-        options.frame,
-        options.max_move,
-        options.touch,
-        progress,
-        grid=options.grid,
-        unit=options.unit,
-        skip_invalid=options.skip_invalid,
-        narrow=options.narrow,
-        layer=options.layer,
-        zones_layer=options.zones_layer,
-        city_layer=options.city_layer,
-        neighbours=options.neighbours,
-        neighbours_layer=options.neighbours_layer,
-    )
-
-
-def _read(options: argparse.Namespace) -> List[Optional[str]]:
-    """The layers that a command reads, as they were named."""
-    return [options.source, options.zones, options.city, options.neighbours]
-
-
-def _lost(prepared: Prepared) -> None:
-    """Says on standard error what no use is made of."""
-    for text in prepared.lost:
-        print(f"note: {text}", file=sys.stderr)
 
 
 def _prepare(options: argparse.Namespace) -> int:
@@ -177,12 +107,12 @@ def _prepare(options: argparse.Namespace) -> int:
     test_own(Path(options.out))
     progress = Progress(6, shown=True)
     try:
-        prepared = _prepared(options, progress)
+        prepared = prepared_of(options, progress)
         progress.step("writing")
         prepared.save(options.out)
     finally:
         progress.close()
-    _lost(prepared)
+    say_lost(prepared)
     print(prepared.summary())
     print(progress.end(), file=sys.stderr)
     return 0
@@ -203,17 +133,17 @@ def _report(options: argparse.Namespace) -> int:
     if options.command == "report" and out is None and not (options.json or options.csv):
         raise Refused("P14", "say where to write the report: --out REPORT.gpkg (or ask by --json or --csv)")
     if out is not None:
-        test_name(out, _read(options))
+        test_name(out, read_of(options))
     progress = Progress(shown=True)
     try:
-        prepared = _prepared(options, progress)
+        prepared = prepared_of(options, progress)
         answer = report(prepared, None, getattr(options, "min_area", 1.0), progress)
         if out is not None:
             progress.step("writing")
             answer.save(out)
     finally:
         progress.close()
-    _lost(prepared)
+    say_lost(prepared)
     if options.json:
         print(json_of(answer_of(answer, prepared)))
     elif options.csv:
@@ -256,69 +186,17 @@ def _verify(options: argparse.Namespace) -> int:
     return 1 if differences else 0
 
 
-def _overlay(options: argparse.Namespace) -> int:
-    from .out.report_formats import csv_of, json_of
-    from .program.commands import pairs_of
-    from .program.tool import program_version
-    from .progress import Progress
-
-    prepared = _prepared(options, Progress(shown=True))
-    frame, _ = pairs_of(prepared)
-    names = ("number", "zone", "split", "area2_mm2", "area_m2", "area_how")
-    rows = list(zip(*(frame[name].tolist() for name in names)))
-    split = list(dict.fromkeys(number for number, _, is_split, *_ in rows if is_split))
-    _lost(prepared)
-    if options.json:
-        pairs = [dict(zip(names, row)) for row in rows]
-        print(json_of({"program": program_version(), "pairs": pairs, "split": split, "lost": prepared.lost}))
-    elif options.csv:
-        print(csv_of(names, [(number, zone, int(it), *areas) for number, zone, it, *areas in rows]), end="")
-    else:
-        print(f"{len(prepared.numbers)} parcels, {len(split)} of them split; {len(rows)} pairs of a parcel and a zone")
-    return 0
-
-
-def _locate(options: argparse.Namespace) -> int:
-    from .out.report_formats import csv_of, json_of
-    from .program.commands import locate
-    from .program.tool import program_version
-    from .progress import Progress
-    from .reading.points import points_at
-    from .reading.sources import read_layer
-
-    prepared = _prepared(options, Progress(shown=True))
-    if options.points is not None:
-        points = read_layer(options.points, "points", options.points_layer)
-    else:
-        points = points_at([options.at], prepared.crs)
-    frame = locate(prepared, points)
-    columns = (frame.geometry.x, frame.geometry.y, frame["where"], frame["numbers"], frame["moved_mm"])
-    rows = [
-        (x, y, where, numbers.split(",") if numbers else [], moved) for x, y, where, numbers, moved in zip(*columns)
-    ]
-    names = ("x", "y", "where", "numbers", "moved_mm")
-    _lost(prepared)
-    if options.json:
-        print(json_of({"program": program_version(), "points": [dict(zip(names, row)) for row in rows]}))
-    elif options.csv:
-        print(csv_of(names, [(x, y, where, " ".join(numbers), moved) for x, y, where, numbers, moved in rows]), end="")
-    else:
-        for x, y, where, numbers, _ in rows:
-            print(f"{x:.3f} {y:.3f} {where} {' '.join(numbers)}".rstrip())
-    return 0
-
-
 def _mend(options: argparse.Namespace) -> int:
     from .faults.mend import COLUMNS, mend
     from .out.gpkg import test_name
     from .out.report_formats import csv_of, json_of
     from .progress import Progress
 
-    test_name(options.out, _read(options))
-    prepared = _prepared(options, Progress(shown=True))
+    test_name(options.out, read_of(options))
+    prepared = prepared_of(options, Progress(shown=True))
     mended = mend(prepared, options.width, options.to)
     mended.save(options.out)
-    _lost(prepared)
+    say_lost(prepared)
     if options.json:
         print(json_of({"closed": mended.closed, "left": mended.left, "verdict": str(mended.verdict)}))
     elif options.csv:
@@ -372,7 +250,7 @@ def _refused(options: argparse.Namespace, refused: Refused) -> int:
 
         print(json_of(refusal_of(refused)))
     print(f"error: {refused}", file=sys.stderr)
-    return refused.status
+    return 1 if options.command in ("serve", "backup") else refused.status
 
 
 def _begin_log() -> None:
@@ -398,22 +276,29 @@ def _find_projections() -> None:
 
 def main(arguments: Optional[List[str]] = None) -> int:
     """Runs the command line; the status."""
-    options = parser().parse_args(arguments)
+    line = parser()
+    if "_ARGCOMPLETE" in os.environ:  # a shell asks what may come next
+        import argcomplete
+
+        argcomplete.autocomplete(line)
+    options = line.parse_args(arguments)
     _begin_log()
     _find_projections()
     commands: Dict[str, Callable[[argparse.Namespace], Optional[int]]] = {
         "prepare": _prepare,
         "check": _report,
         "report": _report,
-        "overlay": _overlay,
-        "locate": _locate,
+        "overlay": run_overlay,
+        "locate": run_locate,
         "mend": _mend,
+        "apply": run_apply,
         "map": _map,
         "back": _back,
         "many": run_command,
         "serve": run_serve,
         "backup": run_backup,
         "journal": run_journal,
+        "explain": run_explain,
     }
     try:
         with cut_as_told(options):
@@ -431,7 +316,7 @@ def main(arguments: Optional[List[str]] = None) -> int:
         logging.getLogger("gandovel").debug("where it happened", exc_info=True)
         text = f"{type(fault).__name__}: {' '.join(str(fault).split())}"
         print(f"error: T2 a fault of this package: {text} (GANDOVEL_LOG=debug says where)", file=sys.stderr)
-    return 1
+    return NO_ANSWER
 
 
 if __name__ == "__main__":

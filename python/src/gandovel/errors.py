@@ -4,6 +4,10 @@ from __future__ import annotations
 from typing import Any, Dict, List, Optional, Sequence
 
 
+STATUS = {"H1": 1, "H2": 1, "P18": 2, "T8": 3, "T9": 3, "T11": 3}
+"""The exit status by the code of a refusal; of all others it is 4."""
+
+
 class Refused(Exception):
     """A layer, a command or a file that is refused.
 
@@ -39,8 +43,12 @@ class Refused(Exception):
 
     @property
     def status(self) -> int:
-        """The exit status: 1, as the program's; 2 where the verdict is open (T11)."""
-        return 2 if self.code == "T11" else 1
+        """The exit status of a command that is refused so.
+
+        1: the program's verdict is that a layer does not tile, or an edit does not fit. 2: the options contradict.
+        3: the verdict is open. 4: something can't be read, run or written, so there is no verdict.
+        """
+        return 1 if isinstance(self, RefusedEdit) else STATUS.get(self.code, 4)
 
     @property
     def all(self) -> "List[Refused]":
@@ -114,6 +122,18 @@ class SeveralRefusedEdits(RefusedEdit):
     def all(self) -> List[Refused]:
         """Each single refusal."""
         return list(self._problems)
+
+
+class PartlyMade(RefusedEdit):
+    """A transaction of which not all edits were made, since another clerk's came between, or the session ended.
+
+    `made` has the answers to those that were made, in order; `unsure` those whose answer did not come: they may be in
+    the journal; `left` those that were not made. Each edit is one of the three.
+    """
+
+    def __init__(self, code: str, text: str, made: Sequence[Any], unsure: Sequence[Any], left: Sequence[Any]) -> None:
+        super().__init__(code, text)
+        self.made, self.unsure, self.left = list(made), list(unsure), list(left)
 
 
 class SessionError(Refused):

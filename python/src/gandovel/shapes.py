@@ -1,64 +1,67 @@
-"""Shapes by the ten thousand: made, taken apart and written by their WKB, which Shapely 1.8 and 2 both read and write.
+"""Shapes by the ten thousand: between Shapely and WKB, the bytes in which GeoPackages have them.
 
-(Shapely 1.8 takes 20 to 50 us for a polygon of coordinates, and as much for its bounds; by WKB it is 10.)
+This module alone knows which Shapely there is: the calls of Shapely 2 take arrays, those of 1.8 a shape each. All are
+public. (Shapely 1.8 takes 20 to 50 us for a polygon of coordinates, and as much for its bounds; by WKB it is 10.)
 """
 from __future__ import annotations
 
-import ctypes
 import math
 import struct
 from itertools import chain
 from typing import Any, Iterable, Iterator, List, Optional, Sequence, Set, Tuple
 
 import numpy as np
-
-from .arrays import Array
-from .large.shares import in_shares
+import shapely
 import shapely.wkb
 from geopandas.array import GeometryArray
 from shapely.geometry import GeometryCollection, Polygon
 
+from .arrays import Array
+from .large.shares import in_shares
+
+TAKES_ARRAYS = hasattr(shapely, "from_ragged_array")
+"""Whether this is Shapely 2."""
 POINT, POLYGON, MULTIPOLYGON = 1, 3, 6
 PLAIN = struct.pack("<BII", 1, POLYGON, 1)
 """How the WKB of a polygon without holes begins; its corners are behind `PLAIN_HEAD` bytes."""
 PLAIN_HEAD = len(PLAIN) + 4
+HEAD, BOXES = 8, (0, 32, 48, 48, 64)
+"""How many bytes a GeoPackage has in front of a WKB: a head, and a box, by the box's kind."""
 PLACE = np.dtype([("order", "u1"), ("kind", "<u4"), ("place", "<f8", 2)])
 """The WKB of a point."""
 
 
 def wkb_of(shapes: Iterable[Any]) -> List[Optional[bytes]]:
     """The WKB of each shape; None of None."""
-    every = shapes if isinstance(shapes, (list, np.ndarray)) else list(shapes)
-
-    def written(begin: int, end: int) -> List[Optional[bytes]]:
-        dumps = _dumps()
-        return [None if shape is None else dumps(shape) for shape in every[begin:end]]
-
-    return list(chain.from_iterable(in_shares(written, len(every), len(every))))
+    every = _objects(shapes)
+    shares = in_shares(lambda begin, end: _written(every[begin:end]), len(every), len(every))
+    return list(chain.from_iterable(shares))
 
 
-def _dumps() -> Any:
-    """What writes a shape as WKB: in Shapely 1.8 one writer for all, since making it takes longer than to write."""
-    try:
-        from shapely.geos import WKBWriter, lgeos
-    except ImportError:
-        return shapely.wkb.dumps
-    return WKBWriter(lgeos).write
+def _written(shapes: Array) -> List[Optional[bytes]]:
+    if TAKES_ARRAYS:
+        written: List[Optional[bytes]] = shapely.to_wkb(shapes, output_dimension=3, byte_order=1).tolist()
+        return written
+    return [None if shape is None else shape.wkb for shape in shapes]
 
 
 def shapes_of(blobs: Iterable[Optional[bytes]]) -> List[Any]:
-    """The shape of each WKB; None of None."""
-    loads = _loads()
-    return [None if blob is None else loads(blob) for blob in blobs]
+    """The shape of each WKB; None of None. Raises `ShapelyError` of what is none."""
+    if TAKES_ARRAYS:
+        made: List[Any] = shapely.from_wkb(_objects(blobs)).tolist()
+        return made
+    return [None if blob is None else shapely.wkb.loads(blob) for blob in blobs]
 
 
-def _loads() -> Any:
-    """What makes a shape of WKB: in Shapely 1.8 one reader for all, since making it takes longer than to read."""
-    try:
-        from shapely.geos import WKBReader, lgeos
-    except ImportError:
-        return shapely.wkb.loads
-    return WKBReader(lgeos).read
+def wkb_in(blob: bytes) -> bytes:
+    """The WKB in a GeoPackage's shape. IndexError where there is none."""
+    return blob[HEAD + BOXES[(blob[3] >> 1) & 7] :]
+
+
+def _objects(items: Iterable[Any]) -> Array:
+    """An array of these, one by one: NumPy would take some of them apart."""
+    every = items if isinstance(items, (list, np.ndarray)) else list(items)
+    return np.fromiter(every, dtype=object, count=len(every))
 
 
 def common_parts(
@@ -66,56 +69,23 @@ def common_parts(
 ) -> Tuple[List[bytes], Array]:
     """For each pair (i, j) what `first[i]` and `second[j]`, WKB both, have in common, as WKB, and its area: by GEOS.
 
-    In Shapely 1.8 GEOS is called with its own pointers: a shape of Python's takes as long as to cut it.
+    Raises `ShapelyError` where GEOS can't cut one.
     """
-    try:
-        from shapely.geos import WKBReader, WKBWriter, lgeos
-    except ImportError:
-        return _common_parts(first, second, pairs)
-    reader, writer = WKBReader(lgeos), WKBWriter(lgeos)
-    owned: List[Any] = []
-
-    def read(blobs: Sequence[bytes]) -> List[Any]:
-        """Pointers to the shapes of these WKB."""
-        for blob in blobs:
-            owned.append(lgeos.GEOSWKBReader_read(reader._reader, blob, len(blob)))
-        return owned[-len(blobs) :] if blobs else []
-
-    parts, areas, area, size = [], [], ctypes.c_double(), ctypes.c_size_t()
-    area_at, size_at = ctypes.byref(area), ctypes.pointer(size)
-    try:
-        ones, others = read(first), read(second)
-        for i, j in pairs:
-            cut = lgeos.GEOSIntersection(ones[i], others[j])
-            if not cut:  # Shapely says why
-                (part,), (one_area,) = _common_parts([first[i]], [second[j]], [(0, 0)])
-                parts.append(part)
-                areas.append(float(one_area))
-                continue
-            lgeos.GEOSArea(cut, area_at)
-            written = lgeos.GEOSWKBWriter_write(writer._writer, cut, size_at)
-            parts.append(ctypes.string_at(written, size.value))
-            areas.append(area.value)
-            lgeos.GEOSFree(written)
-            lgeos.GEOSGeom_destroy(cut)
-    finally:
-        for shape in owned:
-            lgeos.GEOSGeom_destroy(shape)
+    ones, others, at = shapes_of(first), shapes_of(second), list(pairs)
+    if TAKES_ARRAYS:
+        cuts = shapely.intersection(_objects(ones[i] for i, _ in at), _objects(others[j] for _, j in at))
+        return [blob for blob in _written(cuts) if blob is not None], shapely.area(cuts)
+    parts, areas = [], []
+    for i, j in at:
+        cut = ones[i].intersection(others[j])
+        parts.append(cut.wkb)
+        areas.append(cut.area)
     return parts, np.array(areas, dtype=float)
-
-
-def _common_parts(
-    first: Sequence[bytes], second: Sequence[bytes], pairs: Iterable[Tuple[int, int]]
-) -> Tuple[List[bytes], Array]:
-    """As `common_parts`, by Shapely's shapes."""
-    ones, others = shapes_of(first), shapes_of(second)
-    cuts = [ones[i].intersection(others[j]) for i, j in pairs]
-    return [blob for blob in wkb_of(cuts) if blob is not None], np.array([cut.area for cut in cuts], dtype=float)
 
 
 def array_of(shapes: Sequence[Any], crs: Any) -> GeometryArray:
     """Shapes as a column of a frame. (GeoPandas 0.12 takes 0.2 ms for a point, since NumPy takes it for an array.)"""
-    return GeometryArray(np.fromiter(shapes, dtype=object, count=len(shapes)), crs=crs)
+    return GeometryArray(_objects(shapes), crs=crs)
 
 
 def point_wkb(places: Array) -> List[bytes]:
@@ -128,14 +98,29 @@ def point_wkb(places: Array) -> List[bytes]:
 
 def polygons_of(rings: Sequence[Array]) -> List[Polygon]:
     """A polygon of each ring (k, 2), which is without its first corner again."""
-    return shapes_of(rings_wkb(rings))
+    return _polygons([[ring] for ring in rings]) if TAKES_ARRAYS else shapes_of(rings_wkb(rings))
 
 
 def rings_wkb(rings: Sequence[Array]) -> List[bytes]:
     """The WKB of a polygon of each ring (k, 2), which is without its first corner again."""
-    ends = np.cumsum([0, *(len(ring) + 1 for ring in rings)])
+    return plain_wkb(*_closed(rings))
+
+
+def _closed(rings: Sequence[Array]) -> Tuple[Array, Array]:
+    """The corners of rings, each with its first one again, and where each ring begins and the last one ends."""
     closed = [part for ring in rings for part in (ring, ring[:1])]
-    return plain_wkb(np.concatenate([*closed, np.zeros((0, 2))]), ends)
+    return np.concatenate([*closed, np.zeros((0, 2))]), np.cumsum([0, *(len(ring) + 1 for ring in rings)])
+
+
+def _polygons(polygons: Sequence[Sequence[Array]]) -> List[Polygon]:
+    """Polygons, each of an outer ring and holes (k, 2) without the first corner again."""
+    if TAKES_ARRAYS:
+        corners, ends = _closed([ring for rings in polygons for ring in rings])
+        owned = np.cumsum([0, *map(len, polygons)])
+        made: List[Polygon] = shapely.from_ragged_array(shapely.GeometryType.POLYGON, corners, (ends, owned)).tolist()
+        return made
+    closed = ([np.concatenate([ring, ring[:1]]) for ring in rings] for rings in polygons)
+    return shapes_of(map(polygon_wkb, closed))
 
 
 def plain_wkb(corners: Array, ends: Array) -> List[bytes]:
@@ -150,8 +135,11 @@ def plain_wkb(corners: Array, ends: Array) -> List[bytes]:
 def valid_of(polygons: Iterable[Sequence[Array]]) -> List[bool]:
     """Of polygons, each an outer ring and holes (k, 2) without the first corner again, whether GEOS says it is
     valid."""
-    closed = ([np.concatenate([ring, ring[:1]]) for ring in rings] for rings in polygons)
-    return [bool(shape.is_valid) for shape in shapes_of(polygon_wkb(rings) for rings in closed)]
+    made = _polygons(list(polygons))
+    if TAKES_ARRAYS:
+        found: List[bool] = shapely.is_valid(_objects(made)).tolist()
+        return found
+    return [bool(shape.is_valid) for shape in made]
 
 
 def polygon_wkb(rings: Sequence[Array]) -> bytes:
@@ -218,6 +206,8 @@ def box_of(blobs: Iterable[Optional[bytes]]) -> Tuple[float, ...]:
 def bounds_of(shapes: Iterable[Any]) -> Tuple[float, ...]:
     """The box around shapes (x, y, x, y); no numbers (NaN) where all are None or empty."""
     every = [shape for shape in shapes if shape is not None]
+    if TAKES_ARRAYS:
+        return tuple(shapely.total_bounds(_objects(every)).tolist())
     boxes = in_shares(lambda begin, end: GeometryCollection(every[begin:end]).bounds, len(every), len(every))
     known = np.array([box for box in boxes if box]).reshape(-1, 4)
     if len(boxes) > 1 and not np.isfinite(known).all():  # what GEOS makes of them depends on their order

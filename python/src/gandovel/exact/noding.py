@@ -235,7 +235,10 @@ def put_in(
     off = _off(points, loops.corners[found[:, 0]], ends[found[:, 0]], found[:, 1])
     owners = np.cumsum(~loops.hole) - 1
     far, same = off > noise, _same_sides(loops, ends, found)
-    nearest = _nearest(owners[loop], found[:, 1], off)
+    reach = np.maximum(
+        np.broadcast_to(side_reach, len(ends))[found[:, 0]], np.broadcast_to(point_reach, len(points))[found[:, 1]]
+    )
+    nearest = _nearest(loops, points, ends, found, owners[loop], off, reach)
     kept = _all_or_none(same, ~far | nearest & ~_among_own(loops, owners, len(points), loop, found[:, 1]))
     result = _inserted(loops, found[kept])
     if far[kept].any():
@@ -247,13 +250,13 @@ def put_in(
     return result, told
 
 
-def near_pairs(loops: Loops, points: Array, farthest: float) -> Array:
-    """How far off (mm, measured) points of loops lie from sides that they are beside, up to `farthest`: each pair once.
+def near_pairs(loops: Loops, points: Array, farthest: float, wanted: Array) -> Array:
+    """How far off (mm, measured) wanted points lie from sides that they are beside, up to `farthest`: each pair once.
 
     A side of a polygon of its own is none, nor one that runs where such a side does.
     """
     ends = loops.corners[loops.nexts()]
-    found = touches(points, loops.corners, ends, np.unique(loops.corners), farthest, farthest)
+    found = touches(points, loops.corners, ends, wanted, farthest, farthest)
     loop = np.searchsorted(loops.starts, found[:, 0], side="right") - 1
     same = _same_sides(loops, ends, found)
     owners = np.cumsum(~loops.hole) - 1
@@ -270,14 +273,53 @@ def _same_sides(loops: Loops, ends: Array, found: Array) -> Array:
     return np.asarray(np.unique(keys, axis=0, return_inverse=True)[1]).reshape(-1)
 
 
-def _nearest(owner: Array, point: Array, off: Array) -> Array:
-    """Whether each is the nearest to its point of the sides that the point touches of one polygon: beside a corner it
-    touches two."""
-    order = np.lexsort((off, point, owner))
-    fresh = np.concatenate([[True], (np.diff(owner[order]) != 0) | (np.diff(point[order]) != 0)])[: len(order)]
-    found = np.zeros(len(order), dtype=bool)
-    found[order[fresh]] = True
-    return found
+def _nearest(loops: Loops, points: Array, ends: Array, found: Array, owner: Array, off: Array, reach: Array) -> Array:
+    """Whether each is the one of the sides that a point touches of one polygon into which it is put.
+
+    Beside a corner it touches two: then it is put into the one that a side of its own runs along, else into one that is
+    open, else into the nearest.
+    """
+    _, pair, counts = np.unique(owner * len(points) + found[:, 1], return_inverse=True, return_counts=True)
+    several = np.flatnonzero((counts > 1)[pair])
+    apart, is_shared = np.zeros((2, len(found)), dtype=bool)
+    if len(several):
+        apart[several] = ~_run_along(loops, points, ends, found[several], reach[several])
+        is_shared[several] = _are_shared(loops, ends)[found[several, 0]]
+    order = np.lexsort((off, is_shared, apart, pair))
+    fresh = np.concatenate([[True], np.diff(pair[order]) != 0])[: len(order)]
+    chosen = np.zeros(len(order), dtype=bool)
+    chosen[order[fresh]] = True
+    return chosen
+
+
+def _are_shared(loops: Loops, ends: Array) -> Array:
+    """Whether each side is one of another polygon of its layer, too, so that nothing is open at it."""
+    layer = np.repeat(loops.layer, np.diff(loops.starts))
+    count = int(max(loops.corners.max(), ends.max())) + 1
+    keys = (layer * count + np.minimum(loops.corners, ends)) * count + np.maximum(loops.corners, ends)
+    _, index, counts = np.unique(keys, return_inverse=True, return_counts=True)
+    return np.asarray(counts[index] > 1)
+
+
+def _run_along(loops: Loops, points: Array, ends: Array, found: Array, reach: Array) -> Array:
+    """Whether the point of each row (side, point) has a side of its own that runs along this one, but for `reach`."""
+    starts = np.concatenate([loops.corners, ends])
+    own = np.flatnonzero(np.isin(starts, found[:, 1]))
+    own = own[np.argsort(starts[own], kind="stable")]
+    begin = np.searchsorted(starts[own], found[:, 1], side="left")
+    stop = np.searchsorted(starts[own], found[:, 1], side="right")
+    row = np.repeat(np.arange(len(found)), stop - begin)
+    at = np.arange(len(row)) - np.repeat(np.cumsum(stop - begin) - (stop - begin), stop - begin) + begin[row]
+    there = np.concatenate([ends, loops.corners])[own[at]]
+    v = points[there] - points[found[row, 1]]
+    result = np.zeros(len(found), dtype=bool)
+    for end in (loops.corners, ends):
+        w = points[end[found[row, 0]]] - points[found[row, 1]]
+        long, short = np.hypot(*v.T), np.hypot(*w.T)
+        across, dot = v[:, 0] * w[:, 1] - v[:, 1] * w[:, 0], (v * w).sum(axis=1)
+        is_far = (short > reach[row]) & (long > reach[row]) & (dot > 0)
+        result[row[is_far & (np.abs(across) <= reach[row] * np.maximum(long, short))]] = True
+    return result
 
 
 def _all_or_none(same: Array, kept: Array) -> Array:

@@ -87,11 +87,38 @@ def mend(
     zones: Optional[Source] = None,
     **options: Unpack[Options],
 ) -> Mended:
-    """Closes the faults of the parcels that are nowhere wider than `width` (mm); nothing wider is touched.
+    """Closes the faults of the parcels that are nowhere wider than a width; nothing wider is touched.
 
-    Each piece goes to the parcel that has the longest border with it (`to="border"`), is the largest beside it
-    (`larger`), stands first in the layer (`older`), or becomes a row of its own (`none`). Refused P8 where there is no
-    such width or choice.
+    Parameters
+    ----------
+    parcels : Prepared, path, GeoDataFrame or GeoSeries
+        The register; with `zones` and the options of `prepare` where it is not prepared yet.
+    width : float
+        In mm, above 0 and up to 1000.
+    to : {"border", "larger", "older", "none"}
+        Each piece goes to the parcel that has the longest border with it, is the largest beside it, stands first in the
+        layer, or becomes a row of its own.
+
+    Returns
+    -------
+    Mended
+        The parcels (`frame`), what was closed and what was left, and the program's `verdict` on them.
+
+    Raises
+    ------
+    Refused
+        P8: no such width or choice. Else as `report`.
+
+    Examples
+    --------
+    >>> import geopandas, gandovel
+    >>> from shapely.geometry import box
+    >>> plots = geopandas.GeoDataFrame(
+    ...     {"parcel_no": [7, 8]}, geometry=[box(0, 0, 10.02, 10), box(10, 0, 20, 10)], crs=25832
+    ... )
+    >>> mended = gandovel.mend(plots, 50)
+    >>> len(mended.closed), str(mended.verdict)
+    (1, 'tiles')
     """
     if not 0 < width <= 1000:
         raise Refused("P8", f"a width of {width} mm is none: give millimetres, above 0 and up to 1000")

@@ -12,13 +12,10 @@ import geopandas as gpd
 import pandas as pd
 from shapely.errors import ShapelyError
 
-from ..shapes import array_of, shapes_of
+from ..shapes import array_of, shapes_of, wkb_in
 
 MANY = 2_000
 """From so many rows on a GeoPackage is read so."""
-
-ENVELOPES = (8, 40, 56, 56, 72)
-"""The length of a blob's head, in bytes, by its kind of envelope."""
 
 PLAIN = ("INT", "INTEGER", "MEDIUMINT", "SMALLINT", "TINYINT", "REAL", "DOUBLE", "FLOAT", "TEXT")
 """The types of columns whose values are taken as they are. A layer with others is read by Fiona."""
@@ -46,7 +43,7 @@ def _read(path: Path, name: str) -> Optional[gpd.GeoDataFrame]:
     with fiona.open(str(path), layer=name) as layer:
         crs = layer.crs_wkt or None
     cells = list(zip(*rows))
-    shapes = shapes_of(None if blob is None else _wkb(blob) for blob in cells[0])
+    shapes = shapes_of(None if blob is None else wkb_in(blob) for blob in cells[0])
     table = {column: pd.Series(list(values)) for column, values in zip(columns, cells[1:])}
     return gpd.GeoDataFrame(table, geometry=array_of(shapes, crs))
 
@@ -67,8 +64,3 @@ def _columns(connection: sqlite3.Connection, name: str) -> Optional[Tuple[str, L
             return None
         columns.append(column)
     return geometry, columns
-
-
-def _wkb(blob: bytes) -> bytes:
-    """The WKB in a GeoPackage's geometry."""
-    return blob[ENVELOPES[(blob[3] >> 1) & 7] :]

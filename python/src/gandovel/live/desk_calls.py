@@ -15,6 +15,10 @@ Corners = Sequence[Corner]
 """Corners in mm, also as an array of integers of shape (k, 2)."""
 
 
+AHEAD = 1000
+"""How many points are asked for before the first answer is waited for: some 30 kB of lines."""
+
+
 class Calls:
     """The calls of a desk. For one thread at a time.
 
@@ -60,13 +64,29 @@ class Calls:
         `NoSuchLine`. Where it raises `ProgramEnded`, `TimedOut` or `JournalBroken`, the edit may stand in the journal
         all the same.
         """
-        line = line_of(edit, _whole, _path)
+        return self.edit_line(line_of(edit, _whole, _path), who)
+
+    def edit_line(self, line: str, who: Optional[str] = None) -> Accepted:
+        """As `edit`, of an edit as the line of a clerk's file."""
         return accepted_of(self.ask(line if who is None else f"by {who}: {line}"))
 
     def locate(self, x: int, y: int) -> Place:
         """Where a point (mm) lies among the parcels. It waits for no clerk."""
         x, y = _whole(x), _whole(y)
         return place_of(self.ask(f"locate {x} {y}"), x, y)
+
+    def locate_all(self, points: Sequence[Corner]) -> List[Place]:
+        """Where points (mm) lie, in order: many are asked for before the first answer is waited for."""
+        found: List[Place] = []
+        for at in range(0, len(points), AHEAD):
+            part = [(_whole(x), _whole(y)) for x, y in points[at : at + AHEAD]]
+            for x, y in part:
+                self._put(f"locate {x} {y}", False)
+            for place, (x, y) in enumerate(part, 1):
+                answer = self._answered(len(part) - place)[0]
+                test_error(answer)
+                found.append(place_of(answer, x, y))
+        return found
 
     def parcel(self, parcel: int) -> Optional[Outline]:
         """The ring of the parcel with this id and twice its area; None where no parcel has the id now."""
@@ -97,13 +117,14 @@ class Calls:
         self._wire.put(_sendable(line))
         self._owed.append(is_report)
 
-    def _answered(self) -> List[str]:
-        """The lines of the answer to the last line that was put; those of earlier ones are forgotten."""
+    def _answered(self, behind: int = 0) -> List[str]:
+        """The lines of the answer to the last line that was put, or to one with so many behind it; those of earlier
+        ones are forgotten."""
         until = limit_of(self.timeout)
         while True:
             answer = self._next_answer(self._owed[0], until)
             self._owed.popleft()
-            if not self._owed:
+            if len(self._owed) == behind:
                 return answer
 
     def _next_answer(self, is_report: bool, until: Optional[float]) -> List[str]:

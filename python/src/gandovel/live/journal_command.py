@@ -8,11 +8,13 @@ import sys
 from typing import Any, Dict, List
 
 from ..errors import JournalRefused, Refused
+from .repair_command import run_repair
 from .journals import Change, Journal, JournalRecord, changes_of, read_journal
 
 _ADVICE = {
     "no journal": "its first line is no journal's: name the file that a session wrote by --journal",
-    "changed": "this line, or the one behind it, is not as a session wrote it: take the file from a backup",
+    "changed": "this line, or the one behind it, is not as a session wrote it: take the file from a backup, or see "
+    "what can be kept: gandovel journal --repair {path} --out NEW",
 }
 
 
@@ -26,10 +28,27 @@ def add_journal(commands: Any) -> None:
     command.add_argument(
         "--parcels", type=int, metavar="N", help="how many parcels the layer has: new ones by their ids, else +1, +2 .."
     )
+    command.add_argument(
+        "--repair", action="store_true", help="say what is damaged, where, and what can be kept; FILE stays as it is"
+    )
+    command.add_argument(
+        "--out", metavar="NEW", help="with --repair: write the entries that are proved to a new journal"
+    )
+    command.add_argument("--rest", metavar="EDITS", help="with --repair: write what can be read behind the damage")
+    command.set_defaults(fail=command.error)
 
 
-def run_journal(options: argparse.Namespace) -> None:
-    """Prints a journal. Refused where it can't be read, or with the first line that is not as it was written."""
+def run_journal(options: argparse.Namespace) -> int:
+    """Prints a journal, or with `--repair` what can be kept of it; the status, 1 where entries are lost.
+
+    Refused where it can't be read, or with the first line that is not as it was written.
+    """
+    if options.repair:
+        if options.json or options.csv or options.parcels is not None:
+            options.fail("--repair is given with --out and --rest alone")
+        return run_repair(options.file, options.out, options.rest)
+    if options.out is not None or options.rest is not None:
+        options.fail("--out and --rest are given with --repair")
     if options.parcels is not None and options.parcels < 1:
         raise Refused("P13", f"--parcels {options.parcels}: the layer has at least 1 parcel")
     try:
@@ -48,6 +67,7 @@ def run_journal(options: argparse.Namespace) -> None:
     if journal.torn:
         text = f"{journal.torn} bytes behind the last entry are the beginning of one that was never answered"
         print(f"note: {options.file}: {text}", file=sys.stderr)
+    return 0
 
 
 def table_of(journal: Journal, changes: List[Change]) -> List[str]:
@@ -96,4 +116,4 @@ def _refused(path: str, fault: JournalRefused) -> Refused:
     if fault.code == "S1":
         return Refused("S1", fault.text)
     where = path if fault.line is None else f"{path} line {fault.line}"
-    return Refused(fault.code, f"{where}: {_ADVICE[fault.code]}")
+    return Refused(fault.code, f"{where}: {_ADVICE[fault.code].format(path=path)}")

@@ -128,7 +128,7 @@ class Chain:
             self.layer = self.digest = header[1].decode()
             at = 1
         while self.layer and at + 2 < len(lines):
-            found.append(self._record(lines[at], lines[at + 1]))
+            found.append(self.record(lines[at], lines[at + 1]))
             at += 2
         self.rest = b"\n".join(lines[at:])
         return found
@@ -139,7 +139,7 @@ class Chain:
         if not line_feed or b"\n" in edit:
             return []
         try:
-            record = self._record(stamp, edit)
+            record = self.record(stamp, edit)
         except JournalRefused:
             return []
         self.rest = b""
@@ -174,8 +174,8 @@ class Chain:
         blocks = (self.rest[max(at, 0) : at + BLOCK] for at in range(first, len(self.rest), BLOCK))
         return not any(b"\0" in block.rstrip(b"\0") for block in blocks)
 
-    def _record(self, stamp: bytes, edit: bytes) -> JournalRecord:
-        """The record of two lines behind the one before."""
+    def record(self, stamp: bytes, edit: bytes) -> JournalRecord:
+        """The record of two lines behind the one before. Raises `JournalRefused`."""
         found = _STAMP.fullmatch(stamp)
         digest = hashlib.sha256(self.digest.encode() + stamp[:-64] + edit + b"\n").hexdigest()
         if not found or int(found[1]) != self.count + 1 or found[5].decode() != digest or not _is_edit(edit):
@@ -198,8 +198,29 @@ class Chain:
 def read_journal(path: PathLike) -> Journal:
     """Reads the journal at a path, and checks that each record stands as it was written.
 
-    What a cut may leave at the end is counted as `torn`; a running session may be writing it. Raises
-    `JournalRefused`: S1 where the file can't be read, "no journal", or "changed" with the record's first line.
+    Parameters
+    ----------
+    path : path
+        The journal, of a session that may be running.
+
+    Returns
+    -------
+    Journal
+        Its layer and records (edits in ids and mm), and as `torn` how many bytes stand at its end that a cut may leave.
+
+    Raises
+    ------
+    JournalRefused
+        S1 where the file can't be read, "no journal", or "changed" with the record's first line.
+
+    Examples
+    --------
+    >>> import gandovel, pathlib, tempfile
+    >>> with tempfile.TemporaryDirectory() as folder:
+    ...     path = pathlib.Path(folder, "journal")
+    ...     _ = path.write_text(f"# gandovel journal 1 mm {64 * '0'}\\n")
+    ...     gandovel.read_journal(path).records
+    ()
     """
     try:
         with open(path, "rb") as file:

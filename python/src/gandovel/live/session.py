@@ -69,6 +69,19 @@ class Session(Calls):
     Without named desks all calls of `Calls` are made here. With desks no edit is, and with eight no question. A context
     that is left by an exception ends the program as `terminate` does. Where this process ends, however that is, the
     program finds the end of its input, and closes.
+
+    Examples
+    --------
+    >>> import gandovel, numpy, pathlib, tempfile
+    >>> from gandovel.program.layer_files import write_rings
+    >>> left, right = [[0, 0], [9, 0], [9, 9], [0, 9]], [[9, 0], [18, 0], [18, 9], [9, 9]]
+    >>> with tempfile.TemporaryDirectory() as name:
+    ...     city, parcels = pathlib.Path(name, "city.shp"), pathlib.Path(name, "parcels.shp")
+    ...     write_rings(city, [numpy.array([[0, 0], [18, 0], [18, 9], [0, 9]])])
+    ...     write_rings(parcels, [numpy.array(left), numpy.array(right)])
+    ...     with gandovel.Session(city, parcels, "mm") as session:
+    ...         session.merge(1, 2), session.check()
+    (Accepted(number=1, out=(1, 2), new=(3,)), Tiling(count=1, area2=324))
     """
 
     replayed: int
@@ -254,9 +267,9 @@ class Session(Calls):
         self._test_running()
         super()._put(line, is_report)
 
-    def _answered(self) -> List[str]:
+    def _answered(self, behind: int = 0) -> List[str]:
         try:
-            return super()._answered()
+            return super()._answered(behind)
         except ProgramEnded:
             raise self._ended() from None
 

@@ -15,7 +15,7 @@ SHOWN = 8
 
 def add_command(commands: Any) -> None:
     """Adds `many` to the commands of a command line, which `argparse` keeps in an object without a public type."""
-    one = commands.add_parser("many", help="many cities at once, by GNU parallel, Slurm or Dask")
+    one = commands.add_parser("many", help="many cities at once, by GNU parallel, processes, Slurm or Dask")
     one.add_argument(
         "manifest",
         metavar="MANIFEST.csv",
@@ -23,7 +23,9 @@ def add_command(commands: Any) -> None:
     )
     one.add_argument("--out", required=True, metavar="FOLDER", help="the folder of results")
     one.add_argument(
-        "--engine", choices=("parallel", "slurm", "dask"), default="parallel", help="what runs the tasks (parallel)"
+        "--engine",
+        choices=("parallel", "processes", "slurm", "dask"),
+        help="what runs the tasks (parallel, or processes without it)",
     )
     one.add_argument(
         "--scheduler", metavar="ADDRESS", help="Dask's scheduler; without it, one with workers on this machine"
@@ -55,7 +57,7 @@ def _positive(word: str) -> int:
 
 
 def run_command(options: argparse.Namespace) -> int:
-    """Runs the command; its status: 1 where a city does not tile, 2 where one is open or has no verdict.
+    """Runs the command; its status: 1 where a city does not tile, 3 where one is open or has no verdict.
 
     Refused T8 where it is stopped.
     """

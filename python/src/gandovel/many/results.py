@@ -14,8 +14,9 @@ from pathlib import Path
 from typing import Any, Dict, Iterator, List, Optional, Sequence, TextIO, Tuple
 
 from ..errors import Refused
+from ..whole_file import whole_file
 from .tasks import Program, Task
-from .worker import Checked, checked, has_stamp
+from .worker.files import Checked, checked, has_stamp
 
 KINDS = ("cities", "faults", "overlays")
 """The folders of results, by what was asked."""
@@ -140,16 +141,8 @@ class ResultsFolder:
     @contextmanager
     def written(self, name: str) -> Iterator[TextIO]:
         """A file of the folder under another name, which is renamed when it is full. Refused P14."""
-        aside = self.path / f".{os.getpid()}.{name}"
-        try:
-            with open(aside, "w", encoding="utf-8", newline="") as file:
-                yield file
-            os.replace(aside, self.path / name)
-        except OSError as fault:
-            raise Refused("P14", f"{self.path / name} can't be written: {short(fault)}") from fault
-        finally:
-            if aside.exists():
-                aside.unlink()
+        with whole_file(self.path / name) as aside, open(aside, "w", encoding="utf-8", newline="") as file:
+            yield file
 
     def run_of(self, kind: str, name: str) -> Optional[str]:
         """The run that made a result of a kind; None where there is none."""

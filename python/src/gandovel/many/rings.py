@@ -16,7 +16,8 @@ from dataclasses import dataclass
 from pathlib import Path
 from typing import Dict, List, Optional, Sequence, Tuple
 
-from .worker import Checked, checked, put_in_place, remove
+from .worker.files import Checked, checked
+from .worker.task import put_in_place, remove
 
 MM_PER_UNIT = {"mm": 1, "cm": 10, "m": 1000}
 POLYGON, HEADER, BOX, CORNERS = 5, 100, 4, 48

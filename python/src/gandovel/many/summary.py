@@ -288,9 +288,9 @@ class Summary:
 
     @property
     def status(self) -> int:
-        """The command's: 0 where all tile, 1 where one does not, 2 where one is open or has no verdict."""
+        """The command's: 0 where all tile, 1 where one does not, 3 where one is open or has no verdict."""
         kinds = {it.verdict for it in self.verdicts}
-        return 2 if kinds & {"none", "open"} else 1 if "refused" in kinds or self.differing or self.unwritten else 0
+        return 3 if kinds & {"none", "open"} else 1 if "refused" in kinds or self.differing or self.unwritten else 0
 
     @property
     def without(self) -> List[Verdict]:

@@ -13,9 +13,9 @@ from ..errors import Refused
 from ..program.tool import find_tool
 from .manifest import Row
 from .rings import files_of, polygon_of
-from .worker import SETTLED, checked
+from .worker.files import SETTLED, checked
 
-WORKER = Path(__file__).with_name("start.py")
+WORKER = Path(__file__).parent / "worker/start.py"
 """What an engine starts for a list of tasks, with the list's file as its word."""
 
 

@@ -34,6 +34,7 @@ class Basis:
 
     `sources`: each layer's role, path, name and SHA-256. `projection` and `unit` as they were taken. `precision`: how
     finely the parcels are kept (`how`: grid, noise, exact, told or undecided), with the near pairs that were measured.
+    `curves`: of each layer with arcs how many there are, as how many chords they were read, and how far these are off.
     `touch_mm`: how far off a border a corner touched it at most. `touched`, `moved`: how many corners, the farthest
     (mm), the area that touching closed (m2). `city`: where its outline is from. `program` and `package`: what judged,
     with versions. `built_over_proofs` is None where the program's version line does not say it. `time`: when, in UTC.
@@ -43,6 +44,7 @@ class Basis:
     projection: Optional[str]
     unit: Dict[str, Any]
     precision: Dict[str, Any]
+    curves: List[Dict[str, Any]]
     touch_mm: float
     touched: Dict[str, Any]
     moved: Dict[str, Any]
@@ -61,6 +63,7 @@ class Basis:
             None if prepared.crs is None else str(prepared.crs.name),
             {**asdict(unit), "metres": unit.millimetres / 1000},
             told.get("precision", UNKNOWN),
+            told.get("curves", []),
             told["touch"],
             {"corners": told["touched"], "largest_mm": told["largest_touch"], "closed_m2": told["closed_m2"]},
             {"corners": told["moved"], "largest_mm": told["largest_move"]},
@@ -76,8 +79,8 @@ class Basis:
         return {**asdict(self), "measured": MEASURED}
 
     def line(self) -> str:
-        """It in one line: grid or noise, distance, corners that touch and move, the area closed."""
-        return f"{self._kept()}; {self._distance()}; {self._moved()}"
+        """It in one line: grid or noise, arcs, distance, corners that touch and move, the area closed."""
+        return "; ".join([self._kept(), *self._curves(), self._distance(), self._moved()])
 
     def _kept(self) -> str:
         how, grid = self.precision["how"], self.precision["grid_mm"]
@@ -92,6 +95,13 @@ class Basis:
         if how == "undecided":
             return "no grid, and what is noise can't be told from faults"
         return "the grid is not known" if how == "unknown" else "no grid, and no noise"
+
+    def _curves(self) -> List[str]:
+        """How arcs were read; none where there are none."""
+        arcs, chords = (sum(one[name] for one in self.curves) for name in ("arcs", "chords"))
+        most = max((one["sagitta_mm"] for one in self.curves), default=0.0)
+        what = f"{arcs} arc{'' if arcs == 1 else 's'} read as {chords} chords, {_millimetres(most)} off at most"
+        return [what] if arcs else []
 
     def _distance(self) -> str:
         if self.touch_mm < 1e-3:

@@ -14,6 +14,7 @@ from typing import Any, Dict, List, Optional, Union
 from ..errors import Refused
 from ..reading.prepare import prepare
 from ..reading.prepared import Prepared
+from ..whole_file import whole_file
 from .known import identities
 from .report import Report, report
 from .report_formats import counts_of
@@ -35,15 +36,8 @@ def certificate_of(verdict: Report, prepared: Prepared) -> Dict[str, Any]:
 
 def write_certificate(path: Union[str, "os.PathLike[str]"], verdict: Report, prepared: Prepared) -> None:
     """Writes a certificate whole or not at all. Refused P14 where it can't be written."""
-    aside = Path(path).with_name(f".{os.getpid()}.{Path(path).name}")
-    try:
+    with whole_file(path) as aside:
         aside.write_text(json.dumps(certificate_of(verdict, prepared), indent=1, default=str) + "\n", encoding="utf-8")
-        os.replace(aside, path)
-    except OSError as fault:
-        raise Refused("P14", f"{path} can't be written: {fault}") from fault
-    finally:
-        if aside.exists():
-            aside.unlink()
 
 
 def verify(path: Union[str, "os.PathLike[str]"]) -> List[str]:

@@ -4,7 +4,7 @@ from __future__ import annotations
 import tempfile
 from collections import defaultdict
 from pathlib import Path
-from typing import Dict, List, Sequence, Tuple, Union
+from typing import Dict, List, Optional, Sequence, Tuple, Union
 
 import geopandas as gpd
 import numpy as np
@@ -41,14 +41,47 @@ def back_from_files(export: Union[str, Path], rows: Union[str, Path], out: Union
     return frame
 
 
-def back(prepared: Prepared, rings: Sequence[Array], at: int = 0) -> gpd.GeoDataFrame:
+def back(
+    prepared: Prepared, rings: Sequence[Array], at: int = 0, ids: Optional[Sequence[int]] = None
+) -> gpd.GeoDataFrame:
     """The rings (k, 2) int64 mm of an island, number `at` from 0, after edits, as parcels in the layer's projection.
 
     Rows that are as they were make up their parcel again, holes and parts and all. Each other row is a parcel of its
     own (`edited` 1), with the attributes of the parcel that it overlaps most (measured) and its index label;
-    `came_from` has the numbers of all parcels that it overlaps, by the program. Each attribute stands once.
+    `came_from` has the numbers of all parcels that it overlaps, by the program. Each attribute stands once. Where the
+    rings' `ids` in the program are given, the column `ids` has each parcel's (text, comma separated).
+
+    Parameters
+    ----------
+    prepared : Prepared
+        The register as it was before the edits.
+    rings : sequence of arrays
+        What `gandovel.program.layer_files.read_rings` reads of an export.
+
+    Returns
+    -------
+    GeoDataFrame
+        In the layer's projection and unit.
+
+    Raises
+    ------
+    Refused
+        H2: rings that do not tile the island.
+
+    Examples
+    --------
+    >>> import geopandas, gandovel
+    >>> from shapely.geometry import box
+    >>> plots = geopandas.GeoDataFrame({"parcel_no": [7]}, geometry=[box(0, 0, 10, 10)], crs=25832)
+    >>> prepared = gandovel.prepare(plots)
+    >>> gandovel.back(prepared, prepared.islands[0].parcels.rings).came_from.tolist()
+    ['7']
     """
-    return _frame(prepared, rings, _sorted(prepared, *_rows(prepared, rings, at)))
+    rows = _sorted(prepared, *_rows(prepared, rings, at))
+    frame = _frame(prepared, rings, rows)
+    if ids is not None:
+        frame["ids"] = [",".join(str(ids[new]) for new in news) for _, news, _, _ in rows]
+    return frame
 
 
 def back_all(prepared: Prepared, rings: Dict[int, Sequence[Array]]) -> gpd.GeoDataFrame:

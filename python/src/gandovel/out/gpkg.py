@@ -23,7 +23,8 @@ from pyproj import CRS
 
 from ..errors import Refused
 from ..shapes import MULTIPOLYGON, POLYGON, array_of, bounds_of, heads_of, kind_of, multipolygon_wkb
-from ..shapes import shapes_of, wkb_of
+from ..shapes import shapes_of, wkb_in, wkb_of
+from ..whole_file import whole_file
 
 
 @dataclass
@@ -75,8 +76,6 @@ class Table:
 NAMES = "Point LineString Polygon MultiPoint MultiLineString MultiPolygon GeometryCollection".split()
 HEIGHTS = 0x80000000
 """The mark of heights in the kind of a WKB, as GEOS writes it."""
-HEAD = 8
-"""The bytes in front of a shape's WKB, as they are written here: no box."""
 COLUMN = "SELECT column_name FROM gpkg_geometry_columns WHERE table_name = ?"
 TRIGGERS = (
     "SELECT name, sql FROM sqlite_master WHERE type = 'trigger' AND tbl_name = ? AND name LIKE 'trigger_insert_feat%'"
@@ -96,32 +95,27 @@ def write_layers(
 
     `styles` are QGIS styles, and `notes` descriptions, by layer. Refused P14 where the disk does not take it.
     """
-    path = Path(path)
-    aside = path.with_name(f".{os.getpid()}.{path.name}")
     try:
-        tables = [(name, Table.of(frame)) for name, frame in layers]
-        for name, table in tables:
-            _make_table(aside, name, table)
-        with closing(sqlite3.connect(str(aside))) as connection:
-            # The file has another name until it is whole: nothing is lost where a journal and its waiting are left out.
-            for option in ("synchronous = OFF", "journal_mode = OFF", "cache_size = -65536"):
-                connection.execute(f"PRAGMA {option}")
-            for name, table in tables:
-                _fill(connection, name, table)
-            connection.executemany(
-                "UPDATE gpkg_contents SET description = ? WHERE table_name = ?",
-                [(text, name) for name, text in (notes or {}).items()],
-            )
-            if styles:
-                _put_styles(connection, styles)
-            connection.commit()
-        os.replace(aside, path)
-    except (OSError, sqlite3.Error, fiona.errors.FionaError, CPLE_BaseError, RuntimeError, UnicodeError) as fault:
+        with whole_file(path) as aside:
+            _write(aside, [(name, Table.of(frame)) for name, frame in layers], styles or {}, notes or {})
+    except (sqlite3.Error, fiona.errors.FionaError, CPLE_BaseError, RuntimeError, UnicodeError) as fault:
         raise Refused("P14", f"{path} can't be written: {fault}") from fault
-    finally:
-        for left in (aside, Path(f"{aside}-journal"), Path(f"{aside}-wal"), Path(f"{aside}-shm")):
-            if left.exists():
-                left.unlink()
+
+
+def _write(path: Path, tables: Sequence[Tuple[str, Table]], styles: Dict[str, str], notes: Dict[str, str]) -> None:
+    for name, table in tables:
+        _make_table(path, name, table)
+    with closing(sqlite3.connect(str(path))) as connection:
+        # The file has another name until it is whole: nothing is lost where a journal and its waiting are left out.
+        for option in ("synchronous = OFF", "journal_mode = OFF", "cache_size = -65536"):
+            connection.execute(f"PRAGMA {option}")
+        for name, table in tables:
+            _fill(connection, name, table)
+        described = [(text, name) for name, text in notes.items()]
+        connection.executemany("UPDATE gpkg_contents SET description = ? WHERE table_name = ?", described)
+        if styles:
+            _put_styles(connection, styles)
+        connection.commit()
 
 
 def test_name(path: Union[str, Path], read: Sequence[Optional[str]] = ()) -> None:
@@ -293,7 +287,7 @@ def read_table_of(path: Union[str, Path], name: str, change: Optional[str] = Non
         chosen = ("", ()) if change is None else ("WHERE change = ?", (change,))
         rows = connection.execute(f'SELECT {listed} FROM "{name}" {chosen[0]} ORDER BY fid', chosen[1]).fetchall()
     found, *cells = zip(*rows) if rows else [()] * (1 + len(kinds))
-    blobs = [None if blob is None else blob[HEAD:] for blob in found]
+    blobs = [None if blob is None else wkb_in(blob) for blob in found]
     values = {column: _typed_values(list(cell), kind) for (column, kind), cell in zip(kinds.items(), cells)}
     with fiona.open(str(path), layer=name) as opened:
         crs = CRS.from_user_input(opened.crs_wkt) if opened.crs_wkt else None

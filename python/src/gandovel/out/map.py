@@ -15,13 +15,13 @@ from pathlib import Path
 from typing import Any, Dict, List, Optional, Sequence, Set, Tuple, Union
 
 import numpy as np
-import shapely.wkb
 from pyproj import CRS
 from pyproj.exceptions import CRSError
 from shapely.errors import ShapelyError
 
 from ..errors import Refused
-from ..shapes import MULTIPOLYGON, POLYGON, kind_of, rings_of
+from ..shapes import MULTIPOLYGON, POLYGON, kind_of, rings_of, shapes_of, wkb_in
+from ..whole_file import whole_file
 
 PAGE = Path(__file__).parent / "map_page"
 TOLD_UNIT = re.compile(r"Unit \((?:told|of the projection)\): (?P<name>.+?), (?P<metres>[0-9.e+-]+) m;")
@@ -40,8 +40,6 @@ COLUMNS: Dict[str, Sequence[str]] = {
 """What the page shows of each layer of a report. A column that is not there counts as empty."""
 GEOMETRY = "SELECT column_name, srs_id FROM gpkg_geometry_columns WHERE table_name = ?"
 SYSTEM = "SELECT definition FROM gpkg_spatial_ref_sys WHERE srs_id = ?"
-BOX_BYTES = (0, 32, 48, 48, 64)
-"""How long the box in front of a shape's WKB is, by its kind in a GeoPackage's shapes."""
 Rings = List["np.ndarray[Any, Any]"]
 
 
@@ -56,19 +54,11 @@ def write_map(report: Union[str, Path], out: Union[str, Path]) -> None:
     the page, and which parcels overlap by GEOS, which the page says. Refused P1 where the report is no such file, P14
     where the page can't be written.
     """
-    out = Path(out)
-    aside = out.with_name(f".{os.getpid()}.{out.name}")
     page = page_of(Path(report))
-    try:
-        if out.exists() and os.path.samefile(report, out):
+    with whole_file(out) as aside:
+        if os.path.exists(out) and os.path.samefile(report, out):
             raise Refused("P14", f"{out} is the report: give the page another name")
         aside.write_text(page, encoding="utf-8")
-        os.replace(aside, out)
-    except OSError as fault:
-        raise Refused("P14", f"{out} can't be written: {fault}") from fault
-    finally:
-        if aside.exists():
-            aside.unlink()
 
 
 def page_of(report: Path) -> str:
@@ -212,10 +202,10 @@ def _rings(blob: Optional[bytes]) -> Rings:
         return []
     if blob[:2] != b"GP":
         raise ValueError("no shape of a GeoPackage")
-    wkb = blob[8 + BOX_BYTES[blob[3] >> 1 & 7] :]
+    wkb = wkb_in(blob)
     if wkb[0] == 1 and kind_of(wkb) % 1000 in (POLYGON, MULTIPOLYGON):
         return [ring for rings in rings_of(wkb) for ring in _oriented([it[:-1] for it in rings if len(it) > 1])]
-    return _rings_of_shape(shapely.wkb.loads(wkb))
+    return _rings_of_shape(shapes_of([wkb])[0])
 
 
 def _rings_of_shape(shape: Any) -> Rings:

@@ -32,7 +32,7 @@ class Verdict(str, Enum):
     @property
     def status(self) -> int:
         """The status of `gandovel check` and `gandovel report`."""
-        return {"tiles": 0, "does not tile": 1, "open": 2, "undecided": 2}[self.value]
+        return {"tiles": 0, "does not tile": 1, "open": 3, "undecided": 3}[self.value]
 
     @property
     def words(self) -> str:

@@ -3,7 +3,7 @@ from __future__ import annotations
 
 import warnings
 from collections import defaultdict
-from typing import Any, Dict, List, Literal, Optional, Sequence, Tuple, Union, Unpack
+from typing import Any, Dict, List, Literal, Mapping, Optional, Sequence, Tuple, Union, Unpack
 
 import geopandas as gpd
 
@@ -71,6 +71,8 @@ def apply(
     if refused not in ("raise", "keep"):
         raise ValueError(f"refused is 'raise' or 'keep', and not {refused!r}")
     prepared = register_of(parcels, zones, **options)
+    if isinstance(edits, Mapping):
+        raise TypeError("edits: an edit (gandovel.Merge(7, 8) ..), or a sequence of these, is wanted")
     listed: List[Any] = [edits] if isinstance(edits, (str, *EDITS)) else list(edits)
     if island is not None and not 1 <= island <= len(prepared.islands):
         raise Refused("P13", f"part {island} of the city is not there: it has {len(prepared.islands)}", "parcels")
@@ -102,6 +104,9 @@ def _edited(prepared: Prepared, at: int, edits: Sequence[Any]) -> Tuple[List[Arr
         try:
             told = tool.export(folder / "city.shp", folder / "parcels.shp", folder / "new", [clerk])
         except Refused as fault:
+            if fault.code == "L1":  # the text is the number of the clerk's line
+                text = f"edit {fault.text}, {lines[int(fault.text) - 1]!r}, is no line of a clerk's file"
+                raise Refused("L1", text, "edits") from fault
             raise named(prepared, island, fault, "parcels") from fault
         rings = read_rings(folder / "new.shp")
     answered = [place for place, line in enumerate(lines) if _is_answered(place, line)]

@@ -1,7 +1,7 @@
 """Edits of parcels, in the layer's own numbers and units, as the lines of a clerk's file."""
 from __future__ import annotations
 
-from dataclasses import dataclass
+from dataclasses import dataclass, field
 from typing import Any, Callable, List, Sequence, Tuple, Union
 
 import numpy as np
@@ -11,8 +11,6 @@ from ..errors import Refused
 from ..reading.loops import as_text
 from ..reading.prepared import Prepared
 
-Parcel = Union[str, int, float]
-"""A parcel's own number, as its layer has it, or its `Id`."""
 Places = Sequence[Tuple[float, float]]
 
 
@@ -27,6 +25,22 @@ class Id(int):
 
     def __str__(self) -> str:
         return str(int(self))
+
+
+@dataclass(frozen=True)
+class NewId:
+    """A parcel that is still to come: of the edit at this place of its transaction (from 0), the first one or second.
+
+    `Transaction.edit` gives it out, for edits behind that one. `of` is the transaction's number.
+    """
+
+    edit: int
+    which: int
+    of: int = field(default=0, repr=False)
+
+
+Parcel = Union[str, int, float, NewId]
+"""A parcel's own number, as its layer has it, or its `Id`; in a transaction a `NewId`, too."""
 
 
 @dataclass(frozen=True)
@@ -71,6 +85,8 @@ class Straighten:
 
 
 Edit = Union[Split, Merge, Move, Insert, Straighten]
+BRINGS = {Split: 2, Merge: 1, Move: 2, Insert: 0, Straighten: 0}
+"""How many parcels an edit brings; those of corners leave all ids as they are."""
 
 
 def lines_of(prepared: Prepared, edits: Sequence[Any], at: int = 0) -> List[str]:
@@ -82,7 +98,7 @@ def lines_of(prepared: Prepared, edits: Sequence[Any], at: int = 0) -> List[str]
     return [edit if isinstance(edit, str) else _line(prepared, edit, at) for edit in edits]
 
 
-def line_of(edit: Edit, name: Callable[[Parcel], int], path: Callable[[Places], str]) -> str:
+def line_of(edit: Edit, name: Callable[[Any], int], path: Callable[[Places], str]) -> str:
     """An edit as the line of a clerk's file: `name` gives a parcel's id, `path` the text `X Y X Y ..` of places."""
     if isinstance(edit, Split):
         return f"split {name(edit.parcel)} {path(edit.path)}"
@@ -98,12 +114,21 @@ def line_of(edit: Edit, name: Callable[[Parcel], int], path: Callable[[Places], 
 
 
 def _line(prepared: Prepared, edit: Edit, at: int) -> str:
-    return line_of(edit, lambda parcel: _id(prepared, parcel, at), lambda places: _path(prepared, places))
+    return line_of(edit, lambda parcel: id_of(prepared, parcel, at), lambda places: path_of(prepared, places))
 
 
-def _id(prepared: Prepared, parcel: Parcel, at: int) -> int:
+def id_of(prepared: Prepared, parcel: Parcel, at: int) -> int:
+    """The program's id of a parcel of an island (from 0), by its own number or its `Id`.
+
+    Raises
+    ------
+    Refused
+        P13: a number that is not there, or has several records; a `NewId`, which only its transaction knows.
+    """
     if isinstance(parcel, Id):
         return int(parcel)
+    if isinstance(parcel, NewId):
+        raise Refused("P13", f"{parcel} is of a transaction: use it there", "parcels")
     number = as_text(parcel)
     source = prepared.islands[at].parcels.source
     records = [record for record, row in enumerate(source, 1) if row >= 0 and prepared.numbers[row] == number]
@@ -145,10 +170,14 @@ def _island_with(prepared: Prepared, corner: Array) -> int:
     raise Refused("P13", f"no parcel has the corner {tuple((corner / prepared.scale).tolist())}", "parcels")
 
 
-def _path(prepared: Prepared, places: Places) -> str:
+def path_of(prepared: Prepared, places: Places) -> str:
+    """Places in the layer's unit as the program takes them: `X Y X Y ..` in whole mm, the nearest ones."""
     return " ".join(f"{x} {y}" for x, y in _whole(places, prepared).tolist())
 
 
 def _whole(places: Places, prepared: Prepared) -> Array:
-    """Places in the layer's unit as corners (n, 2) in whole mm."""
-    return np.asarray(np.floor(np.asarray(places, dtype=float) * prepared.scale + 0.5), dtype=np.int64)
+    """Places in the layer's unit as corners (n, 2) in whole mm; shapes of shapely are taken by their corners."""
+    listed = getattr(places, "coords", places)
+    plain = [place.coords[0][:2] if hasattr(place, "coords") else place for place in listed]
+    values = np.asarray(plain, dtype=float).reshape(-1, 2) * prepared.scale
+    return np.asarray(np.floor(values + 0.5), dtype=np.int64)

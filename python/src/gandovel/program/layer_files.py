@@ -1,7 +1,6 @@
 """Layers of whole millimetres as shapefiles (`.shp` and `.shx`), the profile that the program reads; no attributes."""
 from __future__ import annotations
 
-import os
 import struct
 from pathlib import Path
 from typing import Any, List, Sequence, Tuple, Union
@@ -10,6 +9,7 @@ import numpy as np
 
 from ..arrays import Array
 from ..errors import Refused
+from ..whole_file import renamed
 
 
 def _header(words: int, low: Sequence[float], high: Sequence[float]) -> bytes:
@@ -63,10 +63,13 @@ def write_rings(main: Union[str, Path], rings: Sequence[Array]) -> None:
         for i, (begin, count) in enumerate(zip(begins.tolist(), counts.tolist()))
         for piece in (front[size * i : size * (i + 1)], back[16 * begin : 16 * (begin + count)])
     ]
-    main = Path(main)
-    _replace(main, _header(int(at[-1]), low, high) + b"".join(records))
     index = np.column_stack([at[:-1], heads["words"]]).astype(">i4").tobytes()
-    _replace(main.with_suffix(".shx"), _header(50 + 4 * len(rings), low, high) + index)
+    for path, content in (
+        (Path(main), _header(int(at[-1]), low, high) + b"".join(records)),
+        (Path(main).with_suffix(".shx"), _header(50 + 4 * len(rings), low, high) + index),
+    ):
+        with renamed(path) as aside:
+            aside.write_bytes(content)
 
 
 def _closed(rings: Sequence[Array], counts: Array) -> Tuple[Array, Array]:
@@ -76,16 +79,6 @@ def _closed(rings: Sequence[Array], counts: Array) -> Tuple[Array, Array]:
     from_first = np.where(step == 0, 0, np.repeat(counts - 1, counts) - step)
     corners = np.concatenate([*rings, np.zeros((0, 2), dtype=np.int64)])
     return corners[np.repeat(begins - np.arange(len(counts)), counts) + from_first].astype("<f8"), begins
-
-
-def _replace(path: Path, content: bytes) -> None:
-    aside = path.with_name(f".{path.name}.{os.getpid()}")
-    try:
-        aside.write_bytes(content)
-        os.replace(aside, path)
-    finally:
-        if aside.exists():
-            aside.unlink()
 
 
 def read_rings(main: Union[str, Path]) -> List[Array]:

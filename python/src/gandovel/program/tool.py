@@ -105,6 +105,13 @@ def ask(arguments: Sequence[str], text: Optional[str] = None) -> str:
     return printed
 
 
+def run_explained(words: Sequence[str]) -> List[str]:
+    """What `parcel_tool explain` prints of a code, or of all; nothing of a code that it does not have."""
+    program_version()
+    ended = subprocess.run([find_tool(), "explain", *words], stdin=subprocess.DEVNULL, capture_output=True, text=True)
+    return ended.stdout.splitlines() if ended.returncode == 0 else []
+
+
 _TEXT = re.compile(r"(?:(?P<role>file|city|parcels|zones|points|clerk \d+): )?(?P<code>[A-Z]\d+)\b ?(?P<rest>.*)")
 
 

@@ -16,7 +16,8 @@ from ..faults.polygons import CITY, Edge, Fault, box_of, boxes_touching, conflic
 from ..faults.polygons import faults_of
 from ..large import is_large
 from ..large.cutting import boxes_of
-from ..large.verdict import check_island, overlay_of_island
+from ..large.overlay import overlay_of_island
+from ..large.verdict import check_island
 from ..reading.prepared import OUT_ROW, Island, Prepared, Rows
 from .layer_files import write_rings
 from .tool import CheckAnswer, Overlaid, check_all, overlay_areas

@@ -54,9 +54,13 @@ class Noise:
         return [{"up_to_mm": edge, "pairs": count} for edge, count in zip(EDGES, self.counts)]
 
 
-def noise_of_pairs(loops: Loops, points: Array, floor: float) -> Noise:
-    """The noise of a layer's loops (of point indices); `floor` (mm) is what floating point may have moved a corner."""
-    off = np.sort(near_pairs(loops, points, FARTHEST))
+def noise_of_pairs(loops: Loops, points: Array, floor: float, made: Optional[Array] = None) -> Noise:
+    """The noise of a layer's loops (of point indices); `floor` (mm) is what floating point may have moved a corner.
+
+    `made` marks the points that are ends of chords, which are no corners of the layer.
+    """
+    wanted = np.unique(loops.corners)
+    off = np.sort(near_pairs(loops, points, FARTHEST, wanted if made is None else wanted[~made[wanted]]))
     exact = max(EXACT, floor)
     counts = np.diff(np.searchsorted(off, [0.0, *EDGES], side="right"), prepend=0)[1:]
     found = Noise(None, counts.tolist())

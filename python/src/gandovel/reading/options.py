@@ -2,30 +2,21 @@
 refused."""
 from __future__ import annotations
 
+import inspect
+from functools import lru_cache
 from typing import Any, Dict, List
 
 from ..errors import Refused
 from .prepared import Prepared
 
-DEFAULTS: Dict[str, Any] = {
-    "zones": None,
-    "number": "parcel_no",
-    "zone": None,
-    "city": None,
-    "frame": False,
-    "max_move": 1.0,
-    "touch": None,
-    "grid": None,
-    "unit": None,
-    "skip_invalid": False,
-    "narrow": 1.0,
-    "layer": None,
-    "zones_layer": None,
-    "city_layer": None,
-    "neighbours": None,
-    "neighbours_layer": None,
-}
-"""The options by their names in Python, and what they are where they are not told."""
+
+@lru_cache(maxsize=None)
+def defaults() -> Dict[str, Any]:
+    """The options by their names in Python, and what they are where they are not told: as `prepare` has them."""
+    from .prepare import prepare
+
+    told = inspect.signature(prepare).parameters
+    return {name: one.default for name, one in told.items() if name not in ("parcels", "progress")}
 
 
 def test_no_option(prepared: Prepared, told: Dict[str, Any], what: str) -> None:
@@ -34,14 +25,14 @@ def test_no_option(prepared: Prepared, told: Dict[str, Any], what: str) -> None:
     Options that are not told are missing, None or their default. One that says what holds anyway (the column of the
     parcels' numbers) is no contradiction.
     """
-    wrong = [name for name in DEFAULTS if _is_told(name, told.get(name)) and not _holds(prepared, name, told[name])]
+    wrong = [name for name in defaults() if _is_told(name, told.get(name)) and not _holds(prepared, name, told[name])]
     if wrong:
         raise Refused("P18", _advice(wrong, told, what))
 
 
 def _is_told(name: str, value: Any) -> bool:
     return (
-        value is not None and value is not False and not (isinstance(value, (str, float)) and value == DEFAULTS[name])
+        value is not None and value is not False and not (isinstance(value, (str, float)) and value == defaults()[name])
     )
 
 

@@ -8,8 +8,9 @@ from typing import Any, List, Optional, Sequence, Tuple
 
 import geopandas as gpd
 import numpy as np
+import pandas as pd
 from pyproj.exceptions import CRSError, ProjError
-from shapely.geometry import Point
+from shapely.geometry import MultiPoint, Point
 
 from ..arrays import Array
 from ..errors import Refused, raise_all
@@ -30,13 +31,16 @@ def points_at(places: Sequence[Sequence[float]], crs: Any) -> gpd.GeoDataFrame:
 def points_of(points: Any, prepared: Prepared) -> Tuple[gpd.GeoDataFrame, gpd.GeoDataFrame, str]:
     """Points as a frame: as they were given, then in the parcels' projection, and how that was done.
 
-    `points` is (x, y), a Point, a sequence or an array of these, or a layer as `prepare` takes it. Refused P7 where
+    `points` is (x, y), a Point, a sequence or an array of these, a frame with columns `x` and `y` in the parcels'
+    projection, or a layer as `prepare` takes it. Refused P7 where
     there is no way from their projection to that of the parcels; TypeError for what is no point.
     """
     if isinstance(points, gpd.GeoSeries):
         given = gpd.GeoDataFrame(geometry=points, crs=points.crs)
     elif isinstance(points, gpd.GeoDataFrame):
         given = points
+    elif isinstance(points, pd.DataFrame) and {"x", "y"} <= set(points.columns):
+        given = gpd.GeoDataFrame(points, geometry=gpd.points_from_xy(points["x"], points["y"]), crs=prepared.crs)
     elif isinstance(points, (str, os.PathLike)):
         given = frame_of(points, "points")
     else:
@@ -56,13 +60,17 @@ def _places(points: Any) -> List[Point]:
     """Points of one place, or of several."""
     if isinstance(points, Point):
         return [points]
+    if isinstance(points, MultiPoint):
+        return list(points.geoms)
     listed = list(points) if hasattr(points, "__iter__") else [points]
     if len(listed) == 2 and all(isinstance(value, numbers.Real) for value in listed):
         return [Point(*listed)]
     try:
         return [place if isinstance(place, Point) else Point(*map(float, place)) for place in listed]
     except (TypeError, ValueError) as fault:
-        raise TypeError("points: (x, y), a Point, several of them, or a layer of points is wanted") from fault
+        raise TypeError(
+            "points: (x, y), a Point, several of them, a frame with x and y, or a layer of points is wanted"
+        ) from fault
 
 
 def on_grid(points: gpd.GeoDataFrame, prepared: Prepared) -> Tuple[Array, Array]:

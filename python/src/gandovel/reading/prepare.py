@@ -25,6 +25,7 @@ from ..faults.neighbours import neighbours_of
 from ..program.limits import FARTHEST, MOST_CORNERS, too_large
 from ..progress import Progress
 from ..shapes import bounds_of
+from .curves import Chords
 from .digests import source_of
 from .keys import key_of
 from .loops import (
@@ -69,6 +70,12 @@ class _Layers:
     def scale(self) -> float:
         """Millimetres per unit."""
         return self.unit.millimetres
+
+    @property
+    def chords(self) -> Dict[str, Chords]:
+        """What became of the arcs of each layer that had some, by its role."""
+        layers = zip(ROLES, (self.parcels, self.zones, self.city))
+        return {role: it.attrs["chords"] for role, it in layers if it is not None and "chords" in it.attrs}
 
     def shapes(self, layer: int) -> Optional[List[Any]]:
         """The shapes of a layer, None for those left out; None where there is no such layer."""
@@ -149,22 +156,49 @@ def prepare(
     neighbours: Optional[Source] = None,
     neighbours_layer: Optional[str] = None,
 ) -> Prepared:
-    """Layers of a GIS in whole millimetres.
+    """Layers of a GIS in whole millimetres, as the program reads them.
 
-    `neighbours` are the cities beside it (column `name`), of which parcels are to cover nothing.
+    Parameters
+    ----------
+    parcels, zones, city, neighbours : GeoDataFrame, GeoSeries or path
+        Polygons and multipolygons in one projection. `neighbours` are the cities beside it (column `name`), of which
+        parcels are to cover nothing. A path is whatever GDAL opens.
+    number : str
+        The column of the parcels' own numbers, no two the same, or `ROW`.
+    zone : str, optional
+        That of the zones' names, which may stand for several rows: by default `zone`, else `number`, else the row.
+    frame : bool
+        A rectangle around all is the city, with a parcel and a zone `OUT`, and zones are uncut. Else the city is
+        `city`, or what the parcels cover, its holes filled, one for each connected part, and zones are cut to it.
+    max_move, touch, grid : float
+        In mm: how far a corner is moved to the grid at most; how far off a border one touches it (by default 1.42 times
+        the grid; 0 compares exactly); the layer's own grid, which is found.
+    unit : str or float, optional
+        m, mm, .. or how many metres it is, where the projection does not say it.
+    skip_invalid : bool
+        Goes on without polygons that are invalid.
+    narrow : float
+        In m: what is open to the outside and narrower is said.
+    layer, zones_layer, city_layer, neighbours_layer : str, optional
+        The layer, where its source has several.
 
-    `parcels`, `zones` and `city` are GeoDataFrames, GeoSeries, or what GDAL opens (`layer`, `zones_layer`, `city_layer`
-    name one of several layers), in one projection: polygons and multipolygons. `number` is the column of the parcels'
-    own numbers, no two the same, or `ROW`; `zone` that of the zones' names (by default `zone`, else `number`, else the
-    row), which may stand for several rows. Without `city` it is what the parcels cover, its holes filled, one for each
-    connected part; what is open to the outside and narrower than `narrow` (m) is told. Zones are cut to the city, or
-    with `frame` a rectangle around all is the city, and a parcel and a zone `OUT` are added.
+    Returns
+    -------
+    Prepared
+        The register; what was changed is in its `changes`, what is made no use of in `lost`.
 
-    In mm: a corner is moved to the grid at most `max_move`; one that is `touch` off a border or less touches it, by
-    default 1.42 times the layer's own `grid`, which is found; 0 compares exactly. `unit` is m, mm, .. or metres, where
-    the projection does not say it. `skip_invalid` goes on without polygons that are invalid.
+    Raises
+    ------
+    Refused
+        P1 .. P14, by number and place; of what is invalid all at once.
 
-    Refused P1 .. P14, by number and place; of what is invalid all at once.
+    Examples
+    --------
+    >>> import geopandas, gandovel
+    >>> from shapely.geometry import box
+    >>> plots = geopandas.GeoDataFrame({"parcel_no": [7]}, geometry=[box(0, 0, 10, 10)], crs=25832)
+    >>> gandovel.prepare(plots).numbers
+    ['7']
     """
     test_distances(grid=grid, touch=touch, max_move=max_move, narrow=narrow * 1000.0)
     progress = progress or Progress()
@@ -223,6 +257,7 @@ def _prepared(
         "noise": work.noise,
         "grid_mm": work.reaches.layers[PARCELS].grid,
         "precision": work.reaches.layers[PARCELS].told(),
+        "curves": [{"layer": role, **it.told()} for role, it in layers.chords.items() if it.arcs],
         **changes.told(),
     }
     prepared = Prepared(
@@ -350,12 +385,23 @@ def _taken_apart(layers: _Layers, grid: Optional[float], touch: Optional[float])
     noise = noise_of(corners)
     (xs, x_made_one), (ys, y_made_one) = (values_gathered(corners[:, axis], noise) for axis in (0, 1))
     points, loops.corners = points_of(np.column_stack([xs, ys]))
-    reaches = reaches_of(loops, points, layers.scale, noise, grid, touch)
+    made = np.zeros(len(points), dtype=bool)
+    made[loops.corners[_are_made(corners, layers)]] = True
+    reaches = reaches_of(loops, points, layers.scale, noise, grid, touch, made)
     work = _Work(loops, points, reaches, layers.scale)
     distance = np.hypot(xs - corners[:, 0], ys - corners[:, 1])
     at = np.flatnonzero((x_made_one & (xs != corners[:, 0])) | (y_made_one & (ys != corners[:, 1])))
     work.tell(GATHERED, corners[at], distance[at], np.searchsorted(loops.starts, at, side="right") - 1)
     return work
+
+
+def _are_made(corners: Array, layers: _Layers) -> Array:
+    """Which of the corners (n, 2) in mm are ends of chords, that their layers have not."""
+    made = [it.corners * layers.scale for it in layers.chords.values()]
+    if not made:
+        return np.zeros(len(corners), dtype=bool)
+    places = np.concatenate(made)
+    return np.isin(corners[:, 0] + 1j * corners[:, 1], places[:, 0] + 1j * places[:, 1])
 
 
 def _outlines_and_zones(

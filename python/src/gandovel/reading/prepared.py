@@ -127,13 +127,13 @@ class Skipped:
 class Prepared:
     """A register on the grid, in the unit of `parcels`; areas and places of its rows are exact.
 
-    `parcels` and `zones` are the layers as they were given; `numbers` and `zone_names` their own numbers, row by row.
+    `layer` and `zones` are the layers as they were given; `numbers` and `zone_names` their own numbers, row by row.
     `changes` are the corners that were changed, of which `told` has counts and distances; once loaded those alone that
     were made to touch. `open_gaps` are notches and channels of the city that the parcels make, `skipped` the rows that
     were left out, `lost` what the package makes no use of, in sentences. `neighbours` are the cities beside it.
     """
 
-    parcels: gpd.GeoDataFrame
+    layer: Union[gpd.GeoDataFrame, Table]
     numbers: List[str]
     number: str
     unit: Unit
@@ -160,7 +160,7 @@ class Prepared:
     @property
     def parcel_key(self) -> pd.Series:
         """The parcels' own numbers with their own type, name and index, as they were given."""
-        return self._key("parcels", self.__dict__["parcels"], self.number)
+        return self._key("parcels", self.layer, self.number)
 
     @property
     def zone_key(self) -> pd.Series:
@@ -181,13 +181,17 @@ class Prepared:
     @property
     def crs(self) -> Any:
         """The layer's projection."""
-        return self.__dict__["parcels"].crs
+        return self.layer.crs
 
     @cached_property
     def parcels_table(self) -> Table:
         """The parcels as they were given, as they are written: once loaded no shape is made for it."""
-        layer = self.__dict__["parcels"]
-        return layer if isinstance(layer, Table) else Table.of(layer)
+        return Table.of(self.layer)
+
+    @cached_property
+    def parcels(self) -> gpd.GeoDataFrame:
+        """The parcels as they were given: once loaded, shapes are made when they are asked for."""
+        return self.layer.frame() if isinstance(self.layer, Table) else self.layer
 
     def number_of(self, row: int) -> str:
         """The number of a row of the parcels; `OUT` for the area outside."""
@@ -347,29 +351,9 @@ class Prepared:
         """Of `changes_frame` the corners that were made to touch."""
         kept = self.changes.change == TOUCHED
         arrays = (getattr(self.changes, name)[kept] for name in Changes.__dataclass_fields__)
-        some = Prepared(self.__dict__["parcels"], self.numbers, self.number, self.unit, [], self.zones, self.zone_names)
+        some = Prepared(self.layer, self.numbers, self.number, self.unit, [], self.zones, self.zone_names)
         some.changes = Changes(*arrays)
         return some.changes_frame().drop(columns="change")
-
-
-class _Made:
-    """The field `parcels`: a table that was read becomes a frame once it is asked for."""
-
-    def __get__(self, it: Optional[Prepared], _: Any = None) -> Any:
-        if it is None:
-            return self
-        layer = it.__dict__["parcels"]
-        if isinstance(layer, Table):
-            it.__dict__["parcels_table"] = layer
-            layer = it.__dict__["parcels"] = layer.frame()
-        return layer
-
-    def __set__(self, it: Prepared, layer: Any) -> None:
-        it.__dict__.pop("parcels_table", None)
-        it.__dict__["parcels"] = layer
-
-
-Prepared.parcels = _Made()
 
 
 def test_own(work: Path) -> None:
@@ -401,7 +385,33 @@ def _put_in_place(aside: Path, work: Path) -> None:
 
 
 def load(work: Union[str, Path]) -> Prepared:
-    """What `Prepared.save` wrote. Refused P1 where the folder is no such one, or is torn."""
+    """What `Prepared.save` wrote.
+
+    Parameters
+    ----------
+    work : path
+        The folder.
+
+    Returns
+    -------
+    Prepared
+        Of its changes those alone that were made to touch.
+
+    Raises
+    ------
+    Refused
+        P1: the folder is no such one, or is torn.
+
+    Examples
+    --------
+    >>> import geopandas, gandovel, tempfile
+    >>> from shapely.geometry import box
+    >>> plots = geopandas.GeoDataFrame({"parcel_no": [7]}, geometry=[box(0, 0, 10, 10)], crs=25832)
+    >>> with tempfile.TemporaryDirectory() as folder:
+    ...     gandovel.prepare(plots).save(folder)
+    ...     gandovel.load(folder).numbers
+    ['7']
+    """
     work = Path(work)
     try:
         facts = json.loads((work / "prepared.json").read_text())

@@ -7,7 +7,7 @@ import os
 import re
 import tempfile
 from pathlib import Path
-from typing import Dict, List, Optional, Tuple, Union
+from typing import Any, Dict, List, Optional, Tuple, Union
 
 import fiona
 import geopandas as gpd
@@ -17,6 +17,8 @@ import pandas as pd
 from ..errors import Refused
 from ..large.reading import read_large
 from ..out.gpkg import typed
+from ..shapes import array_of
+from .curves import straightened
 
 Source = Union[str, "os.PathLike[str]", gpd.GeoDataFrame, gpd.GeoSeries]
 """A layer: a path, or text that GDAL opens (`/vsizip/..`, `PG:..`, an URL of a file, `PATH|layername=NAME`), or
@@ -49,17 +51,20 @@ def read_layer(source: Union[str, "os.PathLike[str]"], role: str, layer: Optiona
     path, layer = _address(os.fspath(source), layer)
     if not re.match(r"/vsi|[A-Za-z][A-Za-z0-9+]+:", path) and not os.path.exists(path):
         raise Refused("P1", f"{path or 'a layer without a name'} is not there", role=role)
+    name = layer or ""
     try:
         name = _layer_name(path, layer, role)
+        if _may_curve(path, name):
+            return _straightened(path, name, role)
         with fiona.open(path, layer=name, **ANY_DRIVER) as opened:
             types = dict(opened.schema["properties"])
         frame = read_large(path, name)
         if frame is None:
-            frame = gpd.read_file(path, layer=name, **ANY_DRIVER)
+            frame = gpd.read_file(path, layer=name, engine="fiona", **ANY_DRIVER)
     except Refused:
         raise
     except fiona.errors.UnsupportedGeometryTypeError:
-        return _straightened(path, layer, role)
+        return _straightened(path, name, role)
     except Exception as fault:
         text = f"{source} can't be read: {' '.join(str(fault).split()).rstrip('.')}"
         raise Refused("P1", f"{text}{_advice_on(path)}", role=role) from fault
@@ -116,25 +121,62 @@ def _may_have(kinds: Tuple[str, ...], path: str, name: str) -> bool:
         return kinds is AREAS
 
 
-def _straightened(path: str, layer: Optional[str], role: str) -> gpd.GeoDataFrame:
-    """A layer with curves, which GDAL makes straight. Refused P5 without GDAL's own module for Python."""
+def _may_curve(path: str, name: str) -> bool:
+    """Whether a layer whose shapes may be of any kind has curves, as far as GDAL's own module for Python is there."""
+    try:
+        from osgeo import ogr
+    except ImportError:
+        return False
+    opened = ogr.Open(path)
+    layer = opened.GetLayerByName(name) if opened is not None else None
+    if layer is None or ogr.GT_Flatten(layer.GetGeomType()) not in (ogr.wkbUnknown, ogr.wkbGeometryCollection):
+        return False
+    shapes = (feature.GetGeometryRef() for feature in layer)
+    return any(shape is not None and shape.HasCurveGeometry(True) for shape in shapes)
+
+
+def _straightened(path: str, name: str, role: str) -> gpd.GeoDataFrame:
+    """A layer with curves, these as chords; `.attrs["chords"]` says how many. Refused P5 without GDAL's own module for
+    Python."""
     try:
         from osgeo import gdal
     except ImportError as fault:
-        text = f"{path} has curves: make them straight by `ogr2ogr -nlt CONVERT_TO_LINEAR`"
+        way = f"ogr2ogr -nlt CONVERT_TO_LINEAR NEW.gpkg {path}"
+        text = f"{path} has curves: install python3-gdal, or make them straight by `{way}`"
         raise Refused("P5", text, role=role) from fault
     gdal.UseExceptions()
     with tempfile.TemporaryDirectory() as folder:
         straight = str(Path(folder) / "straight.gpkg")
         try:
-            layers = [layer] if layer else None
-            done = gdal.VectorTranslate(straight, path, format="GPKG", layers=layers, geometryType="CONVERT_TO_LINEAR")
+            opened = gdal.OpenEx(path, gdal.OF_VECTOR)
+            curved = [_own_geometry(feature) for feature in opened.GetLayerByName(name)]
+            options = ["-f", "GPKG", "-nlt", "CONVERT_TO_LINEAR", "-unsetFid", name]
+            done = gdal.VectorTranslate(straight, opened, options=options)
             del done
         except RuntimeError as fault:
             raise Refused("P1", f"{path} can't be read: {fault}", role=role) from fault
-        frame = read_layer(straight, role, layer)
-    frame.attrs["lost"] = [f"{role}: curves were made straight by GDAL", *frame.attrs["lost"]]
+        frame = read_layer(straight, role)
+    shapes, chords = straightened(curved, _millimetres(frame.crs))
+    every = frame.geometry.to_numpy().copy()
+    for row, shape in shapes.items():
+        every[row] = shape
+    frame = frame.set_geometry(gpd.GeoSeries(array_of(every, frame.crs)))
+    frame.attrs.update(layer=name, chords=chords)
+    if chords.arcs:
+        frame.attrs["lost"] = [f"{role}: {chords.text()}", *frame.attrs["lost"]]
     return frame
+
+
+def _own_geometry(feature: Any) -> Any:
+    """A feature's geometry, which outlives it; None where it has none."""
+    shape = feature.GetGeometryRef()
+    return None if shape is None else shape.Clone()
+
+
+def _millimetres(crs: Any) -> float:
+    """How many millimetres a unit of a projection is; those of a metre where it does not say."""
+    axes = [] if crs is None else [axis for axis in crs.axis_info if crs.is_projected]
+    return 1000.0 * float(axes[0].unit_conversion_factor) if axes else 1000.0
 
 
 def _beyond_fiona(path: str, name: str) -> Tuple[List[str], Dict[str, str]]:

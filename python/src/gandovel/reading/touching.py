@@ -10,7 +10,7 @@ from ..arrays import Array
 from ..errors import Refused
 from .loops import PARCELS, ROLES, Loops
 from .near_pairs import Noise, noise_of_pairs
-from .precision import grids_of, steps_of_rows
+from .precision import NONE, Grids, grids_of, steps_of_rows
 
 DIAGONAL = 1.42
 """A corner and the ends of a border are each rounded by half a step in x and y: together by the square's diagonal."""
@@ -69,10 +69,17 @@ class Reaches:
 
 
 def reaches_of(
-    loops: Loops, points: Array, scale: float, noise: float, grid: Optional[float], touch: Optional[float]
+    loops: Loops,
+    points: Array,
+    scale: float,
+    noise: float,
+    grid: Optional[float],
+    touch: Optional[float],
+    made: Optional[Array] = None,
 ) -> Reaches:
     """The reaches of layers, whose loops are of indices of points in mm, `scale` mm a unit; `grid` and `touch` if told,
-    in mm."""
+    in mm. `made` marks the points that are ends of chords: they say nothing of how finely a layer is kept."""
+    made = np.zeros(len(points), dtype=bool) if made is None else made
     reaches = Reaches(np.full(len(points), noise), np.full(len(loops.corners), noise), [], noise)
     layer = np.repeat(loops.layer, np.diff(loops.starts))
     for at in range(len(ROLES)):
@@ -81,7 +88,7 @@ def reaches_of(
         if not len(here):
             reaches.layers.append(LayerPrecision())
             continue
-        precision, of_corners, of_sides = _layer(some, points, scale, noise, grid, touch, at)
+        precision, of_corners, of_sides = _layer(some, points, scale, noise, grid, touch, at, made)
         np.maximum.at(reaches.of_points, some.corners, of_corners)
         reaches.of_sides[here] = np.maximum(of_sides, noise)
         precision.touch = float(max(of_corners.max(), of_sides.max()))
@@ -97,10 +104,11 @@ def _layer(
     grid: Optional[float],
     touch: Optional[float],
     at: int,
+    made: Array,
 ) -> "tuple[LayerPrecision, Array, Array]":
     """A layer's precision, and the distances of its corners and of their sides."""
     used, corners = np.unique(loops.corners, return_inverse=True)
-    grids = grids_of(points[used], scale, noise)
+    grids = _grids(points[used], made[used], scale, noise)
     precision = LayerPrecision("grid", grids.main, grids.counts())
     everywhere = np.ones(len(loops.corners))
     if touch is not None or grid is not None:
@@ -110,15 +118,26 @@ def _layer(
     of_loops, of_corners = steps_of_rows(loops, grids, corners.reshape(-1))
     of_sides = np.maximum(np.repeat(of_loops, np.diff(loops.starts)), 0.0)
     if grids.main is None:
-        least = _noise(precision, loops, points, noise) if at == PARCELS else 0.0
+        least = _noise(precision, loops, points, noise, made) if at == PARCELS else 0.0
         precision.how = precision.how if at == PARCELS else "none"
         return precision, np.maximum(DIAGONAL * of_corners, least), np.maximum(DIAGONAL * of_sides, least)
     return precision, DIAGONAL * of_corners, DIAGONAL * of_sides
 
 
-def _noise(precision: LayerPrecision, loops: Loops, points: Array, noise: float) -> float:
+def _grids(points: Array, made: Array, scale: float, noise: float) -> Grids:
+    """The grids of points; those that are ends of chords have the layer's."""
+    drawn = ~made
+    if drawn.all() or made.all():
+        return grids_of(points, scale, noise)
+    grids = grids_of(points[drawn], scale, noise)
+    of_points = np.full(len(points), NONE if grids.main is None else grids.steps.index(grids.main))
+    of_points[drawn] = grids.of_points
+    return Grids(grids.steps, of_points, grids.main)
+
+
+def _noise(precision: LayerPrecision, loops: Loops, points: Array, noise: float, made: Array) -> float:
     """What near pairs say of a layer without a grid: the distance within which its corners touch."""
-    precision.noise = found = noise_of_pairs(loops, points, noise)
+    precision.noise = found = noise_of_pairs(loops, points, noise, made)
     if found.distance is None:
         precision.how = "undecided"
         return 0.0

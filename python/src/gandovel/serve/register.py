@@ -18,12 +18,12 @@ from ..arrays import Array
 from ..errors import BadAnswer, JournalBroken, JournalInUse, JournalRefused, NoMemory, NoZones, ProgramEnded, Refused
 from ..live.answers import Accepted, Overlaps, Place, accepted_of, count_of, overlaps_of, place_of, test_error
 from ..live.journals import JournalRecord
+from ..live.tail import Tail
 from .entries import Asked, Entry, Versions
 from .faults import KeyReused, NotServing, Stale, Unknown
 from .layer import Layer
 from .past import Past
 from .program import Program, Room
-from .tail import Tail
 from .turns import Turns
 
 LOG = logging.getLogger("gandovel.serve")

@@ -8,7 +8,7 @@ from dataclasses import dataclass, field
 from typing import Callable, Dict, List, NamedTuple, Optional
 
 from ..tasks import WORKER, Batch, Limits
-from ..worker import PASSING, STATUS
+from ..worker.task import PASSING, STATUS
 
 SPARE = 60.0
 """Seconds that an engine gives a task beyond the program's own limit, to read the inputs before and after."""

@@ -41,7 +41,10 @@ class DaskEngine(Engine):
             import dask
             import distributed
         except ImportError as fault:
-            raise Refused("T7", f"Dask's distributed is not there: {fault}") from fault
+            raise Refused(
+                "T7",
+                f"Dask's distributed is not there ({fault}): install python3-distributed, or say --engine processes",
+            ) from fault
         _quiet()
         address = self.settings.scheduler
         try:

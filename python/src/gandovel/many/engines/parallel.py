@@ -37,7 +37,7 @@ class ParallelEngine(Engine):
     def test(self) -> None:
         path = shutil.which("parallel")
         if path is None:
-            raise Refused("T7", "GNU parallel is not there: parallel is not on PATH")
+            raise Refused("T7", "GNU parallel is not there: install the package parallel, or say --engine processes")
         try:
             with open(path, "rb") as file:
                 text = file.read()
@@ -53,7 +53,9 @@ class ParallelEngine(Engine):
         except OSError as fault:
             raise Refused("T7", f"GNU parallel can't be run: {fault.strerror}") from fault
         if not ended.stdout.startswith("GNU parallel"):
-            raise Refused("T7", "the program parallel on PATH is not GNU parallel")
+            raise Refused(
+                "T7", "the program parallel on PATH is not GNU parallel: install that, or say --engine processes"
+            )
 
     def run(self, batch: Batch, told: Told) -> Dict[int, Lost]:
         def run(jobs: Sequence[Sequence[int]], lists: List[Path]) -> Dict[int, Lost]:

@@ -67,7 +67,10 @@ class SlurmEngine(Engine):
     def test(self) -> None:
         for program in PROGRAMS:
             if shutil.which(program) is None:
-                raise Refused("T7", f"Slurm's {program} is not on PATH")
+                raise Refused(
+                    "T7",
+                    f"Slurm's {program} is not on PATH: install the package slurm-client, or say --engine processes",
+                )
         self.largest = self._largest()
 
     @staticmethod

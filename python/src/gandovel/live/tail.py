@@ -3,10 +3,10 @@ from __future__ import annotations
 
 import os
 from pathlib import Path
-from typing import List
+from typing import Dict, List
 
 from ..errors import BadAnswer, JournalRefused
-from ..live.journals import Chain, JournalRecord
+from .journals import Chain, Change, Journal, JournalRecord, changes_of
 
 PART = 1 << 20
 """How many bytes are read at once."""
@@ -58,3 +58,40 @@ class Tail:
         if self._file >= 0:
             os.close(self._file)
         self._file = -1
+
+
+class History:
+    """The entries of a journal as they come, and what each took out and brought."""
+
+    def __init__(self, path: Path, parcels: int) -> None:
+        """Takes the journal, and how many parcels the layer has, whose ids are 1 and on."""
+        self._tail = Tail(path)
+        self.changes: List[Change] = []
+        self.last = [parcels]
+        """The greatest id behind each entry, and first before all."""
+        self.taken: Dict[int, int] = {}
+        """The entry that took each id out."""
+
+    def read_to(self, count: int) -> None:
+        """Reads on to an entry, which the session has answered or shown."""
+        self._tail.read_to(count)
+        known = len(self.changes)
+        news = tuple(self._tail.records[known:])
+        if news:
+            self.changes += changes_of(Journal("", news, 0, ""), self.last[-1])
+        for entry, change in enumerate(self.changes[known:], known + 1):
+            self.last.append(self.last[-1] + len(change.new))
+            self.taken.update((int(number), entry) for number in change.out)
+
+    def records(self, count: int) -> List[JournalRecord]:
+        """The first `count` entries."""
+        self.read_to(count)
+        return self._tail.records[:count]
+
+    def ids(self, count: int) -> List[int]:
+        """The ids of the parcels after so many entries, ascending."""
+        return [it for it in range(1, self.last[count] + 1) if self.taken.get(it, count + 1) > count]
+
+    def close(self) -> None:
+        """Closes the journal."""
+        self._tail.close()
