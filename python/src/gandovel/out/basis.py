@@ -123,13 +123,10 @@ class Basis:
         """Where noise can't be told from faults: the distances that may be told instead, and what each would do."""
         if self.precision["how"] != "undecided":
             return None
-        texts = [
-            f"--touch {one['touch_mm']:g} ({one['touching']} touch, {one['left']} are left as faults)"
-            for one in self.precision["proposed"]
-        ]
+        texts = [f"--touch {one['touch_mm']:g} ({_given(one)})" for one in self.precision["proposed"]]
         return (
             "it can't be decided how far off corners lie by the layer's rounding: their distances from borders have no "
-            f"clear edge. Say it by one of these, as counted in near pairs (measured): {'; '.join(texts)}"
+            f"clear edge. Say it by one of these, which would give: {'; '.join(texts)}"
         )
 
     def text(self) -> str:
@@ -141,6 +138,18 @@ class Basis:
         pairs = [one for one in self.precision["near_pairs"] if one["pairs"]]
         texts = [f"{one['pairs']} up to {_millimetres(one['up_to_mm'])}" for one in pairs]
         return f"Near pairs of a corner and a border (measured): {', '.join(texts)}." if texts else ""
+
+
+def _given(proposal: Dict[str, Any]) -> str:
+    """What a proposed distance would give."""
+    pairs = f"{_counted(proposal['touching'], 'near pair')} touch{'es' if proposal['touching'] == 1 else ''}"
+    if proposal.get("gaps") is None:
+        return f"{pairs} (measured)"
+    return f"{_counted(proposal['gaps'], 'gap')}, {_counted(proposal['overlaps'], 'overlap')}; {pairs} (measured)"
+
+
+def _counted(count: int, noun: str) -> str:
+    return f"{count} {noun}{'' if count == 1 else 's'}"
 
 
 def _corners(count: int) -> str:
