@@ -28,6 +28,10 @@ UNKNOWN: Dict[str, Any] = {"how": "unknown", "grid_mm": None, "noise_mm": None, 
 """The precision of a register that an earlier version of the package prepared."""
 
 
+BAR = 30
+"""How many signs the longest bar of a histogram has."""
+
+
 @dataclass(frozen=True)
 class Basis:
     """What a verdict stands on.
@@ -134,10 +138,19 @@ class Basis:
         return f"The verdict stands on: {self.line()}. {self.advice() or ''}".rstrip()
 
     def histogram(self) -> str:
-        """How far corners lie from borders that they nearly touch, as a sentence; empty where that was not measured."""
-        pairs = [one for one in self.precision["near_pairs"] if one["pairs"]]
-        texts = [f"{one['pairs']} up to {_millimetres(one['up_to_mm'])}" for one in pairs]
-        return f"Near pairs of a corner and a border (measured): {', '.join(texts)}." if texts else ""
+        """How far corners lie from borders that they nearly touch: a line with a bar for each distance, to the farthest.
+
+        Empty where that was not measured.
+        """
+        pairs = self.precision["near_pairs"]
+        most = max((one["pairs"] for one in pairs), default=0)
+        if not most:
+            return ""
+        rows = [
+            f"{_millimetres(one['up_to_mm']):>8} {'#' * -(-BAR * one['pairs'] // most):{BAR}} {one['pairs']}"
+            for one in pairs
+        ]
+        return "\n".join(["Near pairs of a corner and a border, by how far they are apart at most (measured):", *rows])
 
 
 def _given(proposal: Dict[str, Any]) -> str:

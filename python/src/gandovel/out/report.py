@@ -208,7 +208,7 @@ class Report:
             layers.append(("changes", self.prepared.changes_table()))
         notes = {**descriptions.REPORT, **descriptions.CHANGES}
         notes["parcels"] = f"{notes['parcels']} {descriptions.unit_text(self.prepared.unit)} {self.basis.text()}"
-        notes["touched"] = f"{notes['touched']} {self.basis.histogram()}".rstrip()
+        notes["touched"] = f"{notes['touched']}\n{self.basis.histogram()}".rstrip()
         write_layers(path, layers, STYLES, notes)
         if self.zones is not None:
             _write_text(path.with_name("split.csv"), self.table())

@@ -2,21 +2,22 @@
 from __future__ import annotations
 
 from dataclasses import dataclass
-from typing import Any, Dict, List, Optional, Sequence, Tuple, Union
+from typing import Any, Callable, Dict, List, Optional, Sequence, Tuple, TypeVar, Union
 
 import geopandas as gpd
 import numpy as np
 
 from ..arrays import Array
-from ..errors import Refused, place, raise_all
+from ..errors import Refused, SeveralRefused, place, raise_all
 from ..program.limits import FARTHEST
 from ..shapes import bounds_of
 from .curves import Chords
 from .loops import ROLES, ROW, bad_geometries, numbers_of, same_projection
 from .prepared import Skipped
-from .units import Unit, unit_of
+from .units import Unit, names_projection, unit_of
 
 ADVICE = "mend them in the GIS, or go on without them by --skip-invalid"
+First, Second = TypeVar("First"), TypeVar("Second")
 Labels = Tuple[List[str], List[str]]
 """The numbers of the parcels' rows and the names of the zones'."""
 
@@ -70,13 +71,15 @@ def tested_layers(
             raise Refused(
                 "P4", "the layer is empty: `ogrinfo -so FILE` says which layers a file has, and how many rows", role
             )
-    names = numbers_of(parcels, number, "parcels", unique=True)
+    around = box_around(parcels)
+    names, told = _both(
+        lambda: numbers_of(parcels, number, "parcels", unique=True),
+        lambda: unit_of(parcels.crs, unit, around.tolist(), "parcels"),
+    )
     lost = [text for frame in (parcels, zones, city) if frame is not None for text in frame.attrs.get("lost", ())]
     zone, zone_names = _zone_names(zones, zone, number)
     if zones is not None and zone == ROW and ROW not in zones.columns:
         lost.append("zones: they are named by their rows, from 1, since no column has their names (--zone)")
-    around = box_around(parcels)
-    told = unit_of(parcels.crs, unit, around.tolist(), "parcels")
     _test_far(around, told, "parcels")
     skipped: List[Skipped] = []
     for frame, role, labels in ((parcels, "parcels", names), (zones, "zones", zone_names), (city, "city", None)):
@@ -86,6 +89,20 @@ def tested_layers(
             rows = labels or [str(row + 1) for row in range(len(frame))]
             skipped += _skipped(frame, rows, role, skip_invalid and role != "city")
     return Layers(parcels, zones, city, number, zone, (names, zone_names), told, skipped, lost)
+
+
+def _both(first: Callable[[], First], second: Callable[[], Second]) -> Tuple[First, Second]:
+    """What two calls answer. Where both refuse, both are raised at once."""
+    try:
+        one = first()
+    except Refused as fault:
+        try:
+            second()
+        except Refused as other:
+            if not isinstance(fault, SeveralRefused):
+                raise SeveralRefused([fault, other], "Mend both") from fault
+        raise
+    return one, second()
 
 
 def _skipped(frame: gpd.GeoDataFrame, labels: Sequence[str], role: str, skip_invalid: bool) -> List[Skipped]:
@@ -122,7 +139,9 @@ def test_beside(frame: gpd.GeoDataFrame, role: str, parcels: gpd.GeoDataFrame, a
     unnamed = unit.how == "told" and (frame.crs is None or parcels.crs is None)
     if not unnamed and not same_projection(parcels.crs, frame.crs):
         names = f"{_name(frame.crs)}, {_name(parcels.crs)}"
-        advice = f"bring it to theirs: ogr2ogr -t_srs {_code(parcels.crs)} NEW.gpkg OLD.gpkg"
+        way = "-t_srs" if names_projection(frame.crs) else "-a_srs"
+        what = "bring it to theirs" if way == "-t_srs" else "say it where it is theirs"
+        advice = f"{what}: ogr2ogr {way} {_code(parcels.crs)} NEW.gpkg OLD.gpkg"
         raise Refused("P7", f"its projection is not that of the parcels: {names}: {advice}", role=role)
     here, there = around, box_around(frame)
     _test_far(there, unit, role)

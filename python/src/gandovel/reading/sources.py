@@ -6,6 +6,7 @@ import logging
 import os
 import re
 import tempfile
+import zipfile
 from pathlib import Path
 from typing import Any, Dict, List, Optional, Tuple, Union
 
@@ -29,6 +30,9 @@ ANY_DRIVER = {"allow_unsupported_drivers": True}
 ANY = ("GeometryCollection", "3D GeometryCollection", "Unknown")
 AREAS = ("Polygon", "MultiPolygon", "3D Polygon", "3D MultiPolygon", *ANY)
 POINTS = ("Point", "3D Point", *ANY)
+LAYER_FILES = (".shp", ".gpkg", ".geojson", ".json", ".gml", ".xml", ".fgb", ".tab", ".dxf", ".kml", ".sqlite")
+"""How the names of files end that have layers."""
+MOST_NAMED = 4
 
 
 def frame_of(source: Source, role: str, layer: Optional[str] = None) -> gpd.GeoDataFrame:
@@ -80,7 +84,15 @@ def _advice_on(path: str) -> str:
     """What to do where a file can't be read: of a zip file, how GDAL opens it."""
     if not path.lower().endswith(".zip") or path.startswith("/vsi"):
         return ""
-    return f": of a zip file, name the layer within: /vsizip/{os.path.abspath(path)}/NAME (`unzip -l` lists the names)"
+    place = f"/vsizip/{os.path.abspath(path)}"
+    try:
+        with zipfile.ZipFile(path) as archive:
+            names = [name for name in archive.namelist() if name.lower().endswith(LAYER_FILES)]
+    except (OSError, zipfile.BadZipFile):
+        return ", and is no zip file that can be read"
+    if not names:
+        return f": of a zip file, name the layer within: {place}/NAME (`unzip -l` lists the names)"
+    return f": of a zip file, name the layer within: {', or '.join(f'{place}/{name}' for name in names[:MOST_NAMED])}"
 
 
 def _address(text: str, layer: Optional[str]) -> Tuple[str, Optional[str]]:
