@@ -3,6 +3,7 @@ from __future__ import annotations
 
 import hashlib
 import json
+import shutil
 
 import geopandas as gpd
 import pandas as pd
@@ -183,3 +184,17 @@ def test_a_report_asks_for_the_overlay_first(faults, tmp_path, monkeypatch):
     assert verdict.basis.program["version"] and verdict.verdict == ("does not tile" if faults else "tiles")
     asked = [word for word in (tmp_path / "runs").read_text().split() if word != "--version"]
     assert asked[:3] == (["overlay", "check", "check"] if faults else ["overlay", "area"])
+
+
+def test_a_program_that_was_built_without_proofs_says_so(layer, tmp_path, monkeypatch):
+    program = tmp_path / "parcel_tool"
+    shutil.copy(find_tool(), program)
+    monkeypatch.setenv("GANDOVEL_TOOL", str(program))
+    prepared = gv.prepare(layer)
+    assert gv.report(prepared).basis.program["built_over_proofs"] is None
+    digest = hashlib.sha256(program.read_bytes()).hexdigest()
+    program.with_name("parcel_tool.unproved").write_text(f"{digest}\n{'0' * 64}\n")
+    basis = gv.report(prepared).basis
+    assert basis.program["built_over_proofs"] is False and f"built without proofs, SHA-256 {digest}" in basis.text()
+    program.with_name("parcel_tool.unproved").write_text("of another program\n")
+    assert gv.report(prepared).basis.program["built_over_proofs"] is None

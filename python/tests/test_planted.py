@@ -38,7 +38,7 @@ def test_what_is_planted_is_found_and_nothing_else(name, tmp_path):
             undecided.append(seed)
             report = gv.report(gv.prepare(made.source, touch=made.distance, **made.options))
         found = report.faults()
-        counts = made.judged((kind, numbers.split(",")) for kind, numbers in zip(found.kind, found.numbers))
+        counts = made.judged((one.kind, one.numbers.split(","), one.geometry) for one in found.itertuples())
         assert (counts.missed, counts.false) == (0, 0), f"{name}, seed {seed}: {counts}"
         assert report.verdict == ("does not tile" if made.planted else "tiles")
         total += counts

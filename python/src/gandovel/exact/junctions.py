@@ -173,7 +173,7 @@ def _inserted(loops: Loops, found: Array) -> Loops:
 
 
 def _broken(loops: Loops, points: Array, owners: Array, changed: Array) -> Array:
-    """Of the polygons (numbers of owners) that were changed, those that are invalid now or on the grid, as GEOS says."""
+    """Of the polygons (numbers of owners) that were changed, those that GEOS calls invalid, now or on the grid."""
     first = np.searchsorted(owners, changed)
     last = np.searchsorted(owners, changed, side="right")
     broken = np.zeros(len(changed), dtype=bool)

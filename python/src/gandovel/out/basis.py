@@ -41,7 +41,8 @@ class Basis:
     `curves`: of each layer with arcs how many there are, as how many chords they were read, and how far these are off.
     `touch_mm`: how far off a border a corner touched it at most. `touched`, `moved`: how many corners, the farthest
     (mm), the area that touching closed (m2). `city`: where its outline is from. `program` and `package`: what judged,
-    with versions. `built_over_proofs` is None where the program's version line does not say it. `time`: when, in UTC.
+    with versions; `built_over_proofs` is False where `make build` made the program, else None: its line does not
+    say it. `time`: when, in UTC.
     """
 
     sources: List[Dict[str, Any]]
@@ -135,10 +136,12 @@ class Basis:
 
     def text(self) -> str:
         """It as the report describes it: `line`, and `advice` where there is some."""
-        return f"The verdict stands on: {self.line()}. {self.advice() or ''}".rstrip()
+        unproved = ", built without proofs" if self.program["built_over_proofs"] is False else ""
+        who = f"By {self.program['version']}{unproved}, SHA-256 {self.program['sha256']}, and {self.package}."
+        return f"The verdict stands on: {self.line()}. {who} {self.advice() or ''}".rstrip()
 
     def histogram(self) -> str:
-        """How far corners lie from borders that they nearly touch: a line with a bar for each distance, to the farthest.
+        """How far corners lie from borders that they nearly touch: a line with a bar for each distance.
 
         Empty where that was not measured.
         """
@@ -176,8 +179,16 @@ def _millimetres(distance: float) -> str:
 
 def _program() -> Dict[str, Any]:
     path, line = Path(find_tool()), program_version()
-    says = "proof" in line
-    return {"version": line, "sha256": _digest(str(path), path.stat().st_mtime_ns), "built_over_proofs": says or None}
+    digest = _digest(str(path), path.stat().st_mtime_ns)
+    return {"version": line, "sha256": digest, "built_over_proofs": False if _is_unproved(path, digest) else None}
+
+
+def _is_unproved(path: Path, digest: str) -> bool:
+    """Whether a note beside the program says that it was built without proofs, as `make build` leaves it."""
+    try:
+        return path.with_name(f"{path.name}.unproved").read_text().split()[:1] == [digest]
+    except (OSError, UnicodeDecodeError):
+        return False
 
 
 @lru_cache(maxsize=8)

@@ -93,6 +93,7 @@ def prepare(
         beside = frame_of(neighbours, "neighbours", neighbours_layer)
         test_beside(beside, "neighbours", layers.parcels, box_around(layers.parcels), layers.unit)
         prepared.neighbours = neighbours_of(beside, layers.scale)
+        prepared.told["sources"].append(source_of(neighbours, beside, "neighbours"))
     prepared.given_keys["parcels"] = key_of(parcels, layers.parcels, layers.number)
     if layers.zones is not None:
         prepared.given_keys["zones"] = key_of(zones, layers.zones, layers.zone)
