@@ -17,7 +17,8 @@ from .prepared import Skipped
 from .units import Unit, names_projection, unit_of
 
 ADVICE = "mend them in the GIS, or go on without them by --skip-invalid"
-First, Second = TypeVar("First"), TypeVar("Second")
+First = TypeVar("First")
+Second = TypeVar("Second")
 Labels = Tuple[List[str], List[str]]
 """The numbers of the parcels' rows and the names of the zones'."""
 
@@ -76,7 +77,12 @@ def tested_layers(
         lambda: numbers_of(parcels, number, "parcels", unique=True),
         lambda: unit_of(parcels.crs, unit, around.tolist(), "parcels"),
     )
-    lost = [text for frame in (parcels, zones, city) if frame is not None for text in frame.attrs.get("lost", ())]
+    lost = [
+        text
+        for frame, role in zip((parcels, zones, city), ROLES)
+        if frame is not None
+        for text in (*_curved(frame, role), *frame.attrs.get("lost", ()))
+    ]
     zone, zone_names = _zone_names(zones, zone, number)
     if zones is not None and zone == ROW and ROW not in zones.columns:
         lost.append("zones: they are named by their rows, from 1, since no column has their names (--zone)")
@@ -89,6 +95,11 @@ def tested_layers(
             rows = labels or [str(row + 1) for row in range(len(frame))]
             skipped += _skipped(frame, rows, role, skip_invalid and role != "city")
     return Layers(parcels, zones, city, number, zone, (names, zone_names), told, skipped, lost)
+
+
+def _curved(frame: gpd.GeoDataFrame, role: str) -> List[str]:
+    """What became of a layer's arcs; none where it has none."""
+    return [f"{role}: {frame.attrs['chords'].text()}"] if "chords" in frame.attrs and frame.attrs["chords"].arcs else []
 
 
 def _both(first: Callable[[], First], second: Callable[[], Second]) -> Tuple[First, Second]:

@@ -21,7 +21,7 @@ from .layers import Layers, box_around, test_beside, tested_layers
 from .loops import PARCELS, ROLES, ROW
 from .prepared import Changes, Prepared
 from .proposals import add_what_each_gives
-from .sources import Source, frame_of
+from .sources import Source, frame_of, with_chords
 from .touching import test_distances
 from .work import outlines_and_zones, taken_apart, tell_moves, to_grid
 
@@ -67,15 +67,17 @@ def prepare(
     test_distances(grid=grid, touch=touch, max_move=max_move, narrow=narrow * 1000.0)
     progress = progress or Progress()
     progress.step("reading the layers")
-    frames = (
-        frame_of(parcels, "parcels", layer),
-        None if zones is None else frame_of(zones, "zones", zones_layer),
-        None if city is None else frame_of(city, "city", city_layer),
+    frames = with_chords(
+        [
+            frame_of(parcels, "parcels", layer),
+            None if zones is None else frame_of(zones, "zones", zones_layer),
+            None if city is None else frame_of(city, "city", city_layer),
+        ]
     )
     if isinstance(parcels, gpd.GeoSeries) and number not in frames[0].columns:
         number = ROW
     names = str(number), None if zone is None else str(zone)
-    layers = tested_layers(*frames, *names, unit, skip_invalid)
+    layers = tested_layers(frames[0], frames[1], frames[2], *names, unit, skip_invalid)
     prepared = _prepared(layers, frame, max_move, (grid, touch), narrow * 1000.0, progress)
     without_zones = replace(layers, zones=None, zone="", labels=(layers.labels[0], []))
     add_what_each_gives(

@@ -8,7 +8,7 @@ import re
 import tempfile
 import zipfile
 from pathlib import Path
-from typing import Any, Dict, List, Optional, Tuple, Union
+from typing import Any, Dict, List, Optional, Sequence, Tuple, Union
 
 import fiona
 import geopandas as gpd
@@ -19,7 +19,7 @@ from ..errors import Refused
 from ..large.reading import read_large
 from ..out.gpkg import typed
 from ..shapes import array_of
-from .curves import straightened
+from .curves import Drawn, straightened
 
 Source = Union[str, "os.PathLike[str]", gpd.GeoDataFrame, gpd.GeoSeries]
 """A layer: a path, or text that GDAL opens (`/vsizip/..`, `PG:..`, an URL of a file, `PATH|layername=NAME`), or
@@ -168,15 +168,25 @@ def _straightened(path: str, name: str, role: str) -> gpd.GeoDataFrame:
         except RuntimeError as fault:
             raise Refused("P1", f"{path} can't be read: {fault}", role=role) from fault
         frame = read_layer(straight, role)
-    shapes, chords = straightened(curved, _millimetres(frame.crs))
-    every = frame.geometry.to_numpy().copy()
-    for row, shape in shapes.items():
-        every[row] = shape
-    frame = frame.set_geometry(gpd.GeoSeries(array_of(every, frame.crs)))
-    frame.attrs.update(layer=name, chords=chords)
-    if chords.arcs:
-        frame.attrs["lost"] = [f"{role}: {chords.text()}", *frame.attrs["lost"]]
-    return frame
+    frame.attrs.update(layer=name, drawn=Drawn.of(curved, _millimetres(frame.crs)))
+    straight: gpd.GeoDataFrame = with_chords([frame])[0]
+    return straight
+
+
+def with_chords(frames: Sequence[Optional[gpd.GeoDataFrame]]) -> List[Any]:
+    """Layers with their arcs as chords, the same for all that lie on one curve; `.attrs["chords"]` says how many."""
+    drawn = [at for at, frame in enumerate(frames) if frame is not None and "drawn" in frame.attrs]
+    made: List[Any] = list(frames)
+    if not drawn or (len(drawn) == 1 and "chords" in made[drawn[0]].attrs):
+        return made
+    for at, (shapes, chords) in zip(drawn, straightened([made[at].attrs["drawn"] for at in drawn])):
+        frame = made[at]
+        every = frame.geometry.to_numpy().copy()
+        for row, shape in shapes.items():
+            every[row] = shape
+        made[at] = frame.set_geometry(gpd.GeoSeries(array_of(every, frame.crs)))
+        made[at].attrs.update(frame.attrs, chords=chords)
+    return made
 
 
 def _own_geometry(feature: Any) -> Any:
