@@ -52,8 +52,10 @@ class Case:
     there: Callable[[gpd.GeoDataFrame], gpd.GeoDataFrame] = lambda frame: frame
 
     def judged(self, told: Iterable[Tuple[str, Sequence[str], Optional[BaseGeometry]]]) -> "Counts":
-        """What was told, as kind, numbers and place of each fault (None where no place is told), beside what is planted:
-        it is found where kind, parcels and place are its own."""
+        """What was told, as kind, numbers and place of each fault (None where none is told), beside what is planted.
+
+        A planted one is found where kind, parcels and place are its own.
+        """
         left = {at: fault for at, fault in enumerate(self.planted)}
         shapes = gpd.GeoDataFrame(geometry=[it.shape for it in self.planted], crs=METRIC)
         places = list(self.there(shapes).geometry) if self.planted else []

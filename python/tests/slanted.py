@@ -20,8 +20,8 @@ EAST, NORTH = 561_234.567, 5_934_567.891
 
 @dataclass
 class Planted:
-    """A fault that is there: gap or overlap, the two parcels, its area in m2 before the rounding, its circumference, its
-    shape where the register lies."""
+    """A fault that is there: gap or overlap, the two parcels, its area in m2 before the rounding, its circumference,
+    and its shape where the register lies."""
 
     kind: str
     numbers: Tuple[str, str]
