@@ -100,8 +100,11 @@ def test_a_circle_within_a_parcel(tmp_path):
 
 def test_a_city_whose_outline_is_the_arc_of_two_parcels(tmp_path):
     cut = on_arc(0.5)
-    lower = f"CURVEPOLYGON (COMPOUNDCURVE (({points((0, 5), (0, 0), (10, 0))}), CIRCULARSTRING ({points((10, 0), on_arc(0.2), cut)}), ({points(cut, (0, 5))})))"
-    upper = f"CURVEPOLYGON (COMPOUNDCURVE (({points((0, 10), (0, 5), cut)}), CIRCULARSTRING ({points(cut, on_arc(0.7), (10, 10))}), ({points((10, 10), (0, 10))})))"
+    low, high = points((10, 0), on_arc(0.2), cut), points(cut, on_arc(0.7), (10, 10))
+    before, after = points((0, 5), (0, 0), (10, 0)), points((10, 10), (0, 10))
+    lower = f"CURVEPOLYGON (COMPOUNDCURVE (({before}), CIRCULARSTRING ({low}), ({points(cut, (0, 5))})))"
+    sides = points((0, 10), (0, 5), cut)
+    upper = f"CURVEPOLYGON (COMPOUNDCURVE (({sides}), CIRCULARSTRING ({high}), ({after})))"
     parcels = layer(tmp_path / "plots.gpkg", {"lower": lower, "upper": upper})
     city = layer(tmp_path / "city.gpkg", {"city": left(((10, 0), on_arc(0.4), (10, 10)))})
     report = gv.report(gv.prepare(parcels, city=city, grid=10))

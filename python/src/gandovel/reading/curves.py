@@ -150,8 +150,8 @@ class Chords:
 
 @dataclass(eq=False)
 class Drawn:
-    """The rows of a layer that have arcs, each as its polygons, these as rings, these as pieces; the step of the layer's
-    grid, and `scale` mm a unit."""
+    """The rows of a layer that have arcs, each as its polygons, these as rings, these as pieces; the step of its grid,
+    and `scale` mm a unit."""
 
     rows: Dict[int, List[List[List[Piece]]]]
     step: float

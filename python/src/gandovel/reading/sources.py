@@ -169,8 +169,8 @@ def _straightened(path: str, name: str, role: str) -> gpd.GeoDataFrame:
             raise Refused("P1", f"{path} can't be read: {fault}", role=role) from fault
         frame = read_layer(straight, role)
     frame.attrs.update(layer=name, drawn=Drawn.of(curved, _millimetres(frame.crs)))
-    straight: gpd.GeoDataFrame = with_chords([frame])[0]
-    return straight
+    result: gpd.GeoDataFrame = with_chords([frame])[0]
+    return result
 
 
 def with_chords(frames: Sequence[Optional[gpd.GeoDataFrame]]) -> List[Any]:
