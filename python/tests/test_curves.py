@@ -139,3 +139,19 @@ def test_several_parts_and_rows_without_a_shape_or_a_curve(tmp_path):
     assert frame.parcel_no.tolist() == ["two", "right", "plain"]
     assert [shape.geom_type for shape in frame.geometry] == ["MultiPolygon", "Polygon", "Polygon"]
     assert frame.geometry[0].is_valid and len(frame.geometry[0].geoms[0].exterior.coords) > 20
+
+
+HOSTILE = {
+    "flat": "CURVEPOLYGON (COMPOUNDCURVE (CIRCULARSTRING ({0}), ({1})))",
+    "to itself": "CURVEPOLYGON (CIRCULARSTRING ({2}))",
+}
+
+
+@pytest.mark.parametrize("name", HOSTILE)
+def test_what_is_no_shape_is_refused_by_its_number(name, tmp_path):
+    there = points((0, 0), (5, 0), (10, 0)), points((10, 0), (0, 0)), points((3, 3), (3, 3), (3, 3))
+    plain = f"POLYGON (({points((50, 0), (60, 0), (50, 10), (50, 0))}))"
+    path = layer(tmp_path / "plots.gpkg", {"odd": HOSTILE[name].format(*there), "plain": plain})
+    with pytest.raises(gv.Refused, match="P[456] .*odd"):
+        gv.prepare(path)
+    assert gv.prepare(path, skip_invalid=True).told["city"] == "parcels"

@@ -195,6 +195,7 @@ def _made(layer: Drawn, between: Dict[int, Array], sagitta: float) -> Tuple[Dict
     made = {tuple(point) for arc in arcs for point in between[id(arc)].tolist()} - own
     chords = sum(len(between[id(arc)]) + 1 for arc in arcs)
     shapes = {at: _shape(polygons, between) for at, polygons in layer.rows.items()}
+    shapes = {at: shape for at, shape in shapes.items() if shape is not None}
     corners = np.array(sorted(made), dtype=float).reshape(-1, 2)
     return shapes, Chords(len(arcs), chords, sagitta * layer.scale, corners)
 
@@ -280,9 +281,12 @@ def _between(arc: Arc, corners: Dict[int, Tuple[Array, Array]], reach: float) ->
     return np.asarray(chosen[::-1] if runs_back else chosen)
 
 
-def _shape(polygons: List[List[List[Piece]]], between: Dict[int, Array]) -> Union[Polygon, MultiPolygon]:
-    """Polygons as shapes, their arcs as chords."""
-    made = [Polygon(rings[0], rings[1:]) for rings in ([_ring(ring, between) for ring in some] for some in polygons)]
+def _shape(polygons: List[List[List[Piece]]], between: Dict[int, Array]) -> Optional[Union[Polygon, MultiPolygon]]:
+    """Polygons as a shape, their arcs as chords; None of what is none, which stays as GDAL has it."""
+    rings = [[_ring(ring, between) for ring in some if ring] for some in polygons]
+    if not all(some and min(map(len, some)) > 3 for some in rings):
+        return None
+    made = [Polygon(outer, holes) for outer, *holes in rings]
     return made[0] if len(made) == 1 else MultiPolygon(made)
 
 
