@@ -17,7 +17,8 @@ class PutIn:
     """Corners put into loops: the point, the loop, how far off the loop's side it was (mm), and the area (mm2).
 
     The area is the corner's part of what lies between the side as it was and as it is; both are measured. `twin` says
-    that the same side is bent on both sides of it, so that no gap and no overlap is closed.
+    that the same side is bent on both sides of it, so that no gap and no overlap is closed. `tangled` are loops that
+    others would have been put into, had a polygon not become invalid by them.
     """
 
     point: Array
@@ -25,6 +26,7 @@ class PutIn:
     off: Array
     area: Array
     twin: Array
+    tangled: Array
 
 
 def put_in(
@@ -48,7 +50,9 @@ def put_in(
     own = ~_among_own(loops, owners, len(points), loop, found[:, 1])
     choices = [own & chosen for chosen in _choices(loops, points, ends, found, owners[loop], off, reach)]
     result, kept = _unbroken(loops, points, found, owners, loop, far, same, choices)
-    told = _told(points, loops, ends, found[kept], loop[kept], off[kept])
+    wished = _all_or_none(same, ~far | choices[0])
+    counts = [np.bincount(loop[some], minlength=len(loops)) for some in (wished, kept)]
+    told = _told(points, loops, ends, found[kept], loop[kept], off[kept], np.flatnonzero(counts[0] != counts[1]))
     return result, told
 
 
@@ -187,7 +191,7 @@ def _broken(loops: Loops, points: Array, owners: Array, changed: Array) -> Array
     return np.asarray(changed[broken])
 
 
-def _told(points: Array, loops: Loops, ends: Array, found: Array, loop: Array, off: Array) -> PutIn:
+def _told(points: Array, loops: Loops, ends: Array, found: Array, loop: Array, off: Array, tangled: Array) -> PutIn:
     """What was put in, with its areas."""
     side, point = found[:, 0], found[:, 1]
     a, b = loops.corners[side], ends[side]
@@ -202,7 +206,7 @@ def _told(points: Array, loops: Loops, ends: Array, found: Array, loop: Array, o
     keys = np.column_stack([loops.layer[loop], point, low, high])
     _, index, counts = np.unique(keys, axis=0, return_inverse=True, return_counts=True)
     twin = (counts > 1)[index.reshape(-1)]
-    return PutIn(point, loop, off, off * (after - before) / 2, twin)
+    return PutIn(point, loop, off, off * (after - before) / 2, twin, tangled)
 
 
 def _off(points: Array, start: Array, end: Array, point: Array) -> Array:
