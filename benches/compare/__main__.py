@@ -4,8 +4,8 @@
 
 The registers are those of `python/tests/planted.py`: each has up to six gaps and overlaps that are wider than twice the
 distance by which its way of keeping moves corners. A fault counts as found where a program reports one of its kind that
-names its two parcels, and as false where it reports one that is none. The part of the page above its first table is
-written by hand, and stays.
+names its two parcels, at its place where the program says one, and as false where it reports one that is none. The part
+of the page above its first table is written by hand, and stays.
 """
 
 from __future__ import annotations

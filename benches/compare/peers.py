@@ -14,16 +14,17 @@ import sys
 import tempfile
 from dataclasses import dataclass
 from pathlib import Path
-from typing import Callable, Dict, Iterable, List, Sequence, Tuple
+from typing import Callable, Dict, Iterable, List, Optional, Sequence, Tuple
 
 import geopandas as gpd
 import numpy as np
-from shapely.geometry import Polygon
+from shapely.geometry import Point, Polygon
 from shapely.geometry.base import BaseGeometry
 from shapely.ops import unary_union
 from shapely.strtree import STRtree
 
-Found = List[Tuple[str, Tuple[str, ...]]]
+Found = List[Tuple[str, Tuple[str, ...], Optional[BaseGeometry]]]
+"""Of each fault its kind, its parcels, and its place where the program says it."""
 ROOT = Path(__file__).resolve().parents[2]
 SQL_OF_OVERLAPS = """
 SELECT a.parcel_no, b.parcel_no FROM {table} a JOIN {table} b ON a.fid < b.fid AND a.geom && b.geom
@@ -63,7 +64,7 @@ def command(words: Sequence[object], given: str = "", **environment: str) -> str
 def gandovel(layer: Path, distance: float) -> Found:
     """`gandovel check`, which learns the rounding from the layer."""
     said = command([sys.executable, "-m", "gandovel", "check", layer, "--json"], PYTHONPATH=str(ROOT / "python/src"))
-    return [(it["kind"], tuple(it["numbers"])) for it in json.loads(said)["faults"]]
+    return [(it["kind"], tuple(it["numbers"]), Point(it["x"], it["y"])) for it in json.loads(said)["faults"]]
 
 
 def grouped(rows: Iterable[Sequence[str]]) -> Found:
@@ -71,7 +72,7 @@ def grouped(rows: Iterable[Sequence[str]]) -> Found:
     gaps: Dict[str, List[str]] = {}
     for at, number in rows:
         gaps.setdefault(at, []).append(number)
-    return [("gap", tuple(numbers)) for numbers in gaps.values()]
+    return [("gap", tuple(numbers), None) for numbers in gaps.values()]
 
 
 class Near:
@@ -96,11 +97,12 @@ def geos(layer: Path, distance: float) -> Found:
     for one, shape in enumerate(shapes):
         for other in tree.meeting(shape):
             if one < other and shape.intersection(shapes[other]).area > 0:
-                found.append(("overlap", (numbers[one], numbers[other])))
+                found.append(("overlap", (numbers[one], numbers[other]), shape.intersection(shapes[other])))
     whole = unary_union(shapes)
     for part in getattr(whole, "geoms", [whole]):
         for hole in part.interiors:
-            found.append(("gap", tuple(numbers[at] for at in tree.meeting(Polygon(hole).buffer(0.001)))))
+            beside = tuple(numbers[at] for at in tree.meeting(Polygon(hole).buffer(0.001)))
+            found.append(("gap", beside, Polygon(hole)))
     return found
 
 
@@ -154,7 +156,7 @@ class Database:
     def plain(self, layer: Path, distance: float) -> Found:
         """Two statements of SQL over the layer as it is."""
         self.take(layer)
-        overlaps: Found = [("overlap", (a, b)) for a, b in self.sql(SQL_OF_OVERLAPS.format(table="parcels"))]
+        overlaps: Found = [("overlap", (a, b), None) for a, b in self.sql(SQL_OF_OVERLAPS.format(table="parcels"))]
         return overlaps + grouped((a, b) for a, b in self.sql(SQL_OF_GAPS.format(table="parcels", near=0.001)))
 
     def topology(self, layer: Path, distance: float) -> Found:
@@ -178,7 +180,7 @@ class Database:
             " JOIN owned o ON o.face IN (e.left_face, e.right_face)"
             " WHERE f.face_id > 0 AND f.face_id NOT IN (SELECT face FROM owned)"
         )
-        return [("overlap", tuple(row[0].split(","))) for row in twice] + grouped((a, b) for a, b in none)
+        return [("overlap", tuple(row[0].split(",")), None) for row in twice] + grouped((a, b) for a, b in none)
 
 
 def grass(layer: Path, distance: float) -> Found:
@@ -196,7 +198,7 @@ def grass(layer: Path, distance: float) -> Found:
         command([*base, "v.out.ogr", "-c", "input=p", f"output={exported}", "format=GPKG", "type=area", "--quiet"])
         cats = rows_of(command([*base, "v.category", "input=p", "option=print", "type=centroid", "--quiet"]))
         several = [row[0].split("/") for row in cats if "/" in row[0]]
-        found: Found = [("overlap", tuple(table[it] for it in row if it in table)) for row in several]
+        found: Found = [("overlap", tuple(table[it] for it in row if it in table), None) for row in several]
         areas = gpd.read_file(exported)
         tree = Near(list(areas.geometry))
         for _, gap in areas[areas["cat"].isna()].iterrows():
@@ -204,7 +206,7 @@ def grass(layer: Path, distance: float) -> Found:
             numbers = {
                 table.get(str(int(areas["cat"].iloc[at]))) for at in beside if not np.isnan(areas["cat"].iloc[at])
             }
-            found.append(("gap", tuple(sorted(it for it in numbers if it))))
+            found.append(("gap", tuple(sorted(it for it in numbers if it)), gap.geometry))
         return found
 
 

@@ -23,6 +23,7 @@ import geopandas as gpd
 import numpy as np
 from pyproj import Transformer
 from shapely.geometry import Polygon
+from shapely.geometry.base import BaseGeometry
 
 from slanted import Planted, slanted
 
@@ -48,13 +49,21 @@ class Case:
     distance: float
     crs: int = METRIC
     options: Dict[str, Any] = field(default_factory=dict)
+    there: Callable[[gpd.GeoDataFrame], gpd.GeoDataFrame] = lambda frame: frame
 
-    def judged(self, told: Iterable[Tuple[str, Sequence[str]]]) -> "Counts":
-        """What was told, as (kind, numbers) of each fault, beside what is planted."""
+    def judged(self, told: Iterable[Tuple[str, Sequence[str], Optional[BaseGeometry]]]) -> "Counts":
+        """What was told, as kind, numbers and place of each fault (None where none is told), beside what is planted.
+
+        A planted one is found where kind, parcels and place are its own.
+        """
         left = {at: fault for at, fault in enumerate(self.planted)}
+        shapes = gpd.GeoDataFrame(geometry=[it.shape for it in self.planted], crs=METRIC)
+        places = list(self.there(shapes).geometry) if self.planted else []
+        apart = 2 * self.distance / (304.8 if self.crs == FEET else 1000.0)
         false = 0
-        for kind, numbers in told:
-            at = next((at for at, it in left.items() if it.kind == kind and set(it.numbers) <= set(numbers)), None)
+        for kind, numbers, place in told:
+            same = (at for at, it in left.items() if it.kind == kind and set(it.numbers) <= set(numbers))
+            at = next((at for at in same if place is None or places[at].distance(place) <= apart), None)
             if at is None:
                 false += 1
             else:
@@ -161,7 +170,8 @@ def _projected(*systems: int) -> Callable[[int, Path], Case]:
 
     def made(seed: int, folder: Path) -> Case:
         frame, planted = drawn(seed, 14.5)
-        return Case("", projected(rounded(frame, 0.01), *systems), planted, 14.5, systems[-1])
+        there = lambda some: projected(some, *systems)
+        return Case("", there(rounded(frame, 0.01)), planted, 14.5, systems[-1], there=there)
 
     return made
 
@@ -189,11 +199,11 @@ def _feet(step: Optional[float]) -> Callable[[int, Path], Case]:
         distance = 1.42 * max(1.0, (step or 0.0) * 304.8006096) + 0.2
         frame, planted = drawn(seed, distance)
         foot = 0.3048006096
-        there = reshaped(frame, lambda corners: (corners - (561_000, 5_934_000)) / foot + (980_000, 200_000), FEET)
-        kept = there if step is None else rounded(there, step)
+        there = lambda some: reshaped(some, lambda it: (it - (561_000, 5_934_000)) / foot + (980_000, 200_000), FEET)
+        kept = there(frame) if step is None else rounded(there(frame), step)
         options = [word for one in GEODATABASE_OF_FEET for word in ("-lco", one)]
         path = through(kept, folder, "parcels.gdb", *options, driver="OpenFileGDB")
-        return Case("", path, planted, distance, FEET)
+        return Case("", path, planted, distance, FEET, there=there)
 
     return made
 

@@ -20,12 +20,14 @@ EAST, NORTH = 561_234.567, 5_934_567.891
 
 @dataclass
 class Planted:
-    """A fault that is there: gap or overlap, the two parcels, its area in m2 before the rounding, its circumference."""
+    """A fault that is there: gap or overlap, the two parcels, its area in m2 before the rounding, its circumference,
+    and its shape where the register lies."""
 
     kind: str
     numbers: Tuple[str, str]
     area: float
     around: float
+    shape: Polygon
 
 
 def slanted(
@@ -50,9 +52,9 @@ def slanted(
             moved = faults.get(number, 0.0) if at < cells - 1 else 0.0
             shapes.append(_turned(_corners(lines[band], lines[band + 1], left, right + moved), angle))
             if moved:
-                strip = Polygon(_corners(lines[band], lines[band + 1], right, right + moved))
+                strip = Polygon(_turned(_corners(lines[band], lines[band + 1], right, right + moved), angle))
                 kind = "gap" if moved < 0 else "overlap"
-                planted.append(Planted(kind, (f"n{number}", f"n{number + 1}"), strip.area, strip.length))
+                planted.append(Planted(kind, (f"n{number}", f"n{number + 1}"), strip.area, strip.length, strip))
     rounded = [Polygon(corners if decimals is None else np.round(corners, decimals)) for corners in shapes]
     numbers = [f"n{at}" for at in range(len(shapes))]
     return gpd.GeoDataFrame({"parcel_no": numbers}, geometry=rounded, crs=25832), planted

@@ -3,6 +3,7 @@ from __future__ import annotations
 
 import hashlib
 import json
+import shutil
 
 import geopandas as gpd
 import pandas as pd
@@ -12,7 +13,9 @@ from shapely.geometry import Polygon
 import gandovel as gv
 from gandovel.faults.identity import identity_of
 from gandovel.out.certificate import verify, write_certificate
+from gandovel.program.tool import find_tool
 from planted import drawn, rounded
+from registers import register
 from test_register import command
 
 
@@ -168,3 +171,30 @@ def test_a_unit_that_is_not_the_projections_is_refused_unless_it_is_forced(layer
         gv.prepare(layer, unit="ft")
     assert gv.prepare(layer, unit="m").unit.millimetres == 1000
     assert gv.prepare(layer, unit="force:ft").unit.millimetres == pytest.approx(304.8)
+
+
+@pytest.mark.parametrize("faults", [False, True])
+def test_a_report_asks_for_the_overlay_first(faults, tmp_path, monkeypatch):
+    """It checks both layers: all faults are asked for only where it is refused."""
+    program = tmp_path / "program"
+    program.write_text(f'#!/bin/sh\necho "$1" >> "{tmp_path}/runs"\nexec "{find_tool()}" "$@"\n')
+    program.chmod(0o755)
+    monkeypatch.setenv("GANDOVEL_TOOL", str(program))
+    verdict = gv.report(gv.prepare(*register(faults)))
+    assert verdict.basis.program["version"] and verdict.verdict == ("does not tile" if faults else "tiles")
+    asked = [word for word in (tmp_path / "runs").read_text().split() if word != "--version"]
+    assert asked[:3] == (["overlay", "check", "check"] if faults else ["overlay", "area"])
+
+
+def test_a_program_that_was_built_without_proofs_says_so(layer, tmp_path, monkeypatch):
+    program = tmp_path / "parcel_tool"
+    shutil.copy(find_tool(), program)
+    monkeypatch.setenv("GANDOVEL_TOOL", str(program))
+    prepared = gv.prepare(layer)
+    assert gv.report(prepared).basis.program["built_over_proofs"] is None
+    digest = hashlib.sha256(program.read_bytes()).hexdigest()
+    program.with_name("parcel_tool.unproved").write_text(f"{digest}\n{'0' * 64}\n")
+    basis = gv.report(prepared).basis
+    assert basis.program["built_over_proofs"] is False and f"built without proofs, SHA-256 {digest}" in basis.text()
+    program.with_name("parcel_tool.unproved").write_text("of another program\n")
+    assert gv.report(prepared).basis.program["built_over_proofs"] is None

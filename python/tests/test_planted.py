@@ -6,6 +6,8 @@ false.
 from __future__ import annotations
 
 import os
+import sqlite3
+from contextlib import closing
 
 import numpy as np
 import pytest
@@ -36,7 +38,7 @@ def test_what_is_planted_is_found_and_nothing_else(name, tmp_path):
             undecided.append(seed)
             report = gv.report(gv.prepare(made.source, touch=made.distance, **made.options))
         found = report.faults()
-        counts = made.judged((kind, numbers.split(",")) for kind, numbers in zip(found.kind, found.numbers))
+        counts = made.judged((one.kind, one.numbers.split(","), one.geometry) for one in found.itertuples())
         assert (counts.missed, counts.false) == (0, 0), f"{name}, seed {seed}: {counts}"
         assert report.verdict == ("does not tile" if made.planted else "tiles")
         total += counts
@@ -117,7 +119,15 @@ def test_what_can_not_be_decided_is_said_with_what_may_be_told(tmp_path):
     basis = report.basis
     assert report.verdict == "undecided" and basis.precision["how"] == "undecided" and basis.touch_mm < 1e-3
     assert "it can't be decided" in basis.advice() and "--touch 0 (" in basis.advice()
-    assert sum(one["pairs"] for one in basis.precision["near_pairs"]) > 100 and "Near pairs" in basis.histogram()
+    assert sum(one["pairs"] for one in basis.precision["near_pairs"]) > 100
     report.save(tmp_path / "r.gpkg")
-    told = gv.report(gv.prepare(frame, touch=basis.precision["proposed"][0]["touch_mm"]))
-    assert told.verdict == "does not tile" and told.basis.advice() is None
+    with closing(sqlite3.connect(tmp_path / "r.gpkg")) as file:
+        ((note,),) = file.execute("SELECT description FROM gpkg_contents WHERE table_name = 'touched'").fetchall()
+    assert basis.histogram() in note and len(basis.histogram().splitlines()) == 18 and "#" * 30 in note
+    proposed = basis.precision["proposed"]
+    assert {0.0, 1.42, 14.2, 142.0} <= {one["touch_mm"] for one in proposed}
+    for one in proposed[-2:]:
+        told = gv.report(gv.prepare(frame, touch=one["touch_mm"]))
+        assert (len(told.gaps), len(told.overlaps)) == (one["gaps"], one["overlaps"])
+        assert told.verdict == "does not tile" and told.basis.advice() is None
+        assert f"--touch {one['touch_mm']:g} ({one['gaps']} gaps, {one['overlaps']} overlaps; " in basis.advice()

@@ -67,6 +67,30 @@ def test_a_layer_in_a_zip_file(several, tmp_path):
     assert len(gv.prepare(f"/vsizip/{tmp_path}/layers.zip/several.gpkg", layer="old").numbers) == 2
 
 
+def test_a_zip_file_is_no_layer_but_its_layers_are_named(several, tmp_path):
+    path = tmp_path / "layers.zip"
+    with zipfile.ZipFile(path, "w") as archive:
+        archive.write(several, "in/several.gpkg")
+    with pytest.raises(
+        gv.Refused, match=f"P1 .*: of a zip file, name the layer within: /vsizip/{path}/in/several.gpkg$"
+    ):
+        gv.prepare(path)
+    path.write_bytes(b"PK\3\4")
+    with pytest.raises(gv.Refused, match="P1 .* and is no zip file that can be read"):
+        gv.prepare(path)
+
+
+def test_a_layer_without_a_projection_and_without_the_column_is_told_both():
+    frame = two().rename(columns={"parcel_no": "plot"})
+    frame.crs = None
+    with pytest.raises(gv.Refused) as refused:
+        gv.prepare(frame)
+    assert [one.code for one in refused.value.all] == ["P2", "P7"]
+    assert "name one by --number" in str(refused.value) and "say its unit by --unit" in str(refused.value)
+    with pytest.raises(gv.Refused, match="zones: P7 .*say it where it is theirs: ogr2ogr -a_srs EPSG:25832 NEW"):
+        gv.prepare(two(), zones=frame)
+
+
 def test_frames_series_and_paths_as_text(tmp_path):
     two().to_file(tmp_path / "p.gpkg", driver="GPKG")
     assert len(gv.check(str(tmp_path / "p.gpkg"))) == len(gv.check(two().geometry)) == len(gv.check(two())) == 0
@@ -202,7 +226,8 @@ def test_curves_and_measures(tmp_path):
         )
     pytest.importorskip("osgeo")
     frame = read_layer(tmp_path / "arc.gpkg", "parcels")
-    (told,) = frame.attrs["lost"]
+    assert frame.attrs["lost"] == []
+    (told,) = gv.prepare(tmp_path / "arc.gpkg", number="id").lost
     assert told == "parcels: 2 arcs were read as 512 chords, off by 1 mm at most (a tenth of the grid)"
     centre, corners = np.array([561010.0, 5934000.0]), np.array(frame.geometry[0].exterior.coords)
     middles = (corners[1:] + corners[:-1]) / 2

@@ -16,9 +16,10 @@ from gandovel.exact.noding import LEAST, noise_of, points_of, touches
 from gandovel.exact.outlines import Outlines, outlines
 from gandovel.faults.polygons import faults_of
 from gandovel.program.limits import FARTHEST
-from gandovel.reading import prepare as preparing
+from gandovel.reading.layers import tested_layers
 from gandovel.reading.loops import CITY, PARCELS, bad_geometries, loops_of
 from gandovel.reading.sources import frame_of
+from gandovel.reading.work import taken_apart
 from geopandas import GeoDataFrame
 from shapely import wkb
 
@@ -71,8 +72,8 @@ class Neighbourhood:
     ) -> "Neighbourhood":
         """That of a layer, whose rows are these features; with `touch` (mm), if it is told. Refused as it is read."""
         frames = frame_of(parcels, "parcels", None), None, None if city is None else frame_of(city, "city", None)
-        layers = preparing._tested(*frames, number, None, options.get("unit"), False)
-        return cls(preparing._taken_apart(layers, None, options.get("touch")), layers, features)
+        layers = tested_layers(*frames, number, None, options.get("unit"), False)
+        return cls(taken_apart(layers, None, options.get("touch")), layers, features)
 
     def _take(self, work: Any, numbers: Sequence[str], features: Sequence[int]) -> None:
         """The parcels, and the city, of what was taken apart."""

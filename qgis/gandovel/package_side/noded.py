@@ -8,7 +8,8 @@ from dataclasses import dataclass, field
 from typing import Any, Dict, Iterable, Iterator, List, Sequence, Set, Tuple
 
 import numpy as np
-from gandovel.exact import noding
+from gandovel.exact.junctions import put_in
+from gandovel.exact.noding import points_of
 from gandovel.reading.loops import CITY, PARCELS, Loops, joined, loops_from
 
 Array = Any
@@ -60,27 +61,10 @@ def node(parcels: Sequence[Parcel], reach: float, noise: float) -> Tuple[List[Li
     """The loops of parcels with the corners of all of them that are at most `reach` (mm) off their sides; and which of
     them are tangled."""
     loops = loops_in(parcels, "raw")
-    points, loops.corners = noding.points_of(loops.corners)
-    wanted, ends = np.unique(loops.corners), loops.corners[loops.nexts()]
-    found = noding.touches(points, loops.corners, ends, wanted, reach, reach)
-    expected = _expected(loops, points, ends, found, noise)
-    result, told = noding.put_in(loops, points, wanted, reach, reach, noise)
-    put = np.bincount(told.loop, minlength=len(loops))
-    tangled = {int(loops.row[at]) for at in np.flatnonzero(put != expected)}
+    points, loops.corners = points_of(loops.corners)
+    result, told = put_in(loops, points, np.unique(loops.corners), reach, reach, noise)
+    tangled = {int(loops.row[at]) for at in told.tangled}
     return by_row(result, points[result.corners], len(parcels)), tangled
-
-
-def _expected(loops: Loops, points: Array, ends: Array, found: Array, noise: float) -> Array:
-    """How many corners each loop gets where none makes a parcel invalid."""
-    if not len(found):
-        return np.zeros(len(loops), dtype=np.int64)
-    loop = np.searchsorted(loops.starts, found[:, 0], side="right") - 1
-    off = noding._off(points, loops.corners[found[:, 0]], ends[found[:, 0]], found[:, 1])
-    owners = np.cumsum(~loops.hole) - 1
-    own = noding._among_own(loops, owners, len(points), loop, found[:, 1])
-    nearest = noding._nearest(owners[loop], found[:, 1], off)
-    kept = noding._all_or_none(noding._same_sides(loops, ends, found), ~(off > noise) | nearest & ~own)
-    return np.bincount(loop[kept], minlength=len(loops))
 
 
 def to_grid(parcels: Sequence[Parcel], others: Array, noise: float) -> List[List[Array]]:
@@ -90,14 +74,14 @@ def to_grid(parcels: Sequence[Parcel], others: Array, noise: float) -> List[List
     """
     loops = loops_in(parcels, "noded")
     count = len(loops.corners)
-    points, index = noding.points_of(np.concatenate([loops.corners, others.reshape(-1, 2)]))
+    points, index = points_of(np.concatenate([loops.corners, others.reshape(-1, 2)]))
     loops.corners, more = index[:count], np.unique(index[count:])
     if len(more):
-        loops, _ = noding.put_in(loops, points, more, noise, noise, noise)
-    whole, again = noding.points_of(np.floor(points + 0.5))
+        loops, _ = put_in(loops, points, more, noise, noise, noise)
+    whole, again = points_of(np.floor(points + 0.5))
     loops.corners = again[loops.corners]
     wanted = np.unique(np.concatenate([loops.corners, again[more]]))
-    loops, _ = noding.put_in(loops, whole, wanted, 0.0, 0.0, noise)
+    loops, _ = put_in(loops, whole, wanted, 0.0, 0.0, noise)
     return by_row(loops, whole.astype(np.int64)[loops.corners], len(parcels))
 
 
@@ -163,5 +147,5 @@ class Sides:
 def sides_left(net: Net) -> Tuple[Any, Array]:
     """The sides of a net, each as often as it is there, and the points of their corners."""
     ends = [(a, b) if value > 0 else (b, a) for (a, b), value in net.items() for _ in range(abs(value))]
-    points, index = noding.points_of(np.array(ends, dtype=float).reshape(-1, 2))
+    points, index = points_of(np.array(ends, dtype=float).reshape(-1, 2))
     return Sides(index), points

@@ -28,6 +28,10 @@ UNKNOWN: Dict[str, Any] = {"how": "unknown", "grid_mm": None, "noise_mm": None, 
 """The precision of a register that an earlier version of the package prepared."""
 
 
+BAR = 30
+"""How many signs the longest bar of a histogram has."""
+
+
 @dataclass(frozen=True)
 class Basis:
     """What a verdict stands on.
@@ -37,7 +41,8 @@ class Basis:
     `curves`: of each layer with arcs how many there are, as how many chords they were read, and how far these are off.
     `touch_mm`: how far off a border a corner touched it at most. `touched`, `moved`: how many corners, the farthest
     (mm), the area that touching closed (m2). `city`: where its outline is from. `program` and `package`: what judged,
-    with versions. `built_over_proofs` is None where the program's version line does not say it. `time`: when, in UTC.
+    with versions; `built_over_proofs` is False where `make build` made the program, else None: its line does not
+    say it. `time`: when, in UTC.
     """
 
     sources: List[Dict[str, Any]]
@@ -123,24 +128,44 @@ class Basis:
         """Where noise can't be told from faults: the distances that may be told instead, and what each would do."""
         if self.precision["how"] != "undecided":
             return None
-        texts = [
-            f"--touch {one['touch_mm']:g} ({one['touching']} touch, {one['left']} are left as faults)"
-            for one in self.precision["proposed"]
-        ]
+        texts = [f"--touch {one['touch_mm']:g} ({_given(one)})" for one in self.precision["proposed"]]
         return (
             "it can't be decided how far off corners lie by the layer's rounding: their distances from borders have no "
-            f"clear edge. Say it by one of these, as counted in near pairs (measured): {'; '.join(texts)}"
+            f"clear edge. Say it by one of these, which would give: {'; '.join(texts)}"
         )
 
     def text(self) -> str:
         """It as the report describes it: `line`, and `advice` where there is some."""
-        return f"The verdict stands on: {self.line()}. {self.advice() or ''}".rstrip()
+        unproved = ", built without proofs" if self.program["built_over_proofs"] is False else ""
+        who = f"By {self.program['version']}{unproved}, SHA-256 {self.program['sha256']}, and {self.package}."
+        return f"The verdict stands on: {self.line()}. {who} {self.advice() or ''}".rstrip()
 
     def histogram(self) -> str:
-        """How far corners lie from borders that they nearly touch, as a sentence; empty where that was not measured."""
-        pairs = [one for one in self.precision["near_pairs"] if one["pairs"]]
-        texts = [f"{one['pairs']} up to {_millimetres(one['up_to_mm'])}" for one in pairs]
-        return f"Near pairs of a corner and a border (measured): {', '.join(texts)}." if texts else ""
+        """How far corners lie from borders that they nearly touch: a line with a bar for each distance.
+
+        Empty where that was not measured.
+        """
+        pairs = self.precision["near_pairs"]
+        most = max((one["pairs"] for one in pairs), default=0)
+        if not most:
+            return ""
+        rows = [
+            f"{_millimetres(one['up_to_mm']):>8} {'#' * -(-BAR * one['pairs'] // most):{BAR}} {one['pairs']}"
+            for one in pairs
+        ]
+        return "\n".join(["Near pairs of a corner and a border, by how far they are apart at most (measured):", *rows])
+
+
+def _given(proposal: Dict[str, Any]) -> str:
+    """What a proposed distance would give."""
+    pairs = f"{_counted(proposal['touching'], 'near pair')} touch{'es' if proposal['touching'] == 1 else ''}"
+    if proposal.get("gaps") is None:
+        return f"{pairs} (measured)"
+    return f"{_counted(proposal['gaps'], 'gap')}, {_counted(proposal['overlaps'], 'overlap')}; {pairs} (measured)"
+
+
+def _counted(count: int, noun: str) -> str:
+    return f"{count} {noun}{'' if count == 1 else 's'}"
 
 
 def _corners(count: int) -> str:
@@ -154,8 +179,16 @@ def _millimetres(distance: float) -> str:
 
 def _program() -> Dict[str, Any]:
     path, line = Path(find_tool()), program_version()
-    says = "proof" in line
-    return {"version": line, "sha256": _digest(str(path), path.stat().st_mtime_ns), "built_over_proofs": says or None}
+    digest = _digest(str(path), path.stat().st_mtime_ns)
+    return {"version": line, "sha256": digest, "built_over_proofs": False if _is_unproved(path, digest) else None}
+
+
+def _is_unproved(path: Path, digest: str) -> bool:
+    """Whether a note beside the program says that it was built without proofs, as `make build` leaves it."""
+    try:
+        return path.with_name(f"{path.name}.unproved").read_text().split()[:1] == [digest]
+    except (OSError, UnicodeDecodeError):
+        return False
 
 
 @lru_cache(maxsize=8)

@@ -58,6 +58,8 @@ def verify(path: Union[str, "os.PathLike[str]"]) -> List[str]:
         layer=layers["parcels"]["layer"],
         zones_layer=layers.get("zones", {}).get("layer"),
         city_layer=layers.get("city", {}).get("layer"),
+        neighbours=_path(layers, "neighbours"),
+        neighbours_layer=layers.get("neighbours", {}).get("layer"),
         **basis["options"],
     )
     return _differences(told, certificate_of(report(prepared), prepared))

@@ -12,7 +12,8 @@ from ..errors import Refused
 from ..program.tool import program_version
 from ..reading.prepared import OUT_ROW, Prepared
 from .known import identities
-from .report import AREAS, Report
+from .fault_frames import AREAS
+from .report import Report
 
 FAULT_KEYS = (
     "kind",

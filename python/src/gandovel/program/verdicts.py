@@ -163,6 +163,12 @@ def overlay_island(folder: Path, island: Island, parcels: LayerFaults, zones: La
     return Overlaid(pairs, [None] * len(pairs))
 
 
+def may_be_overlaid_at_once(island: Island) -> bool:
+    """Whether the program takes both layers of an island as they are."""
+    rings = island.parcels.rings, island.rows_of_zones().rings
+    return all(map(bool, rings)) and not any(map(is_large, rings))
+
+
 def tiling_overlaid(folder: Path, island: Island) -> Overlaid:
     """The pairs of rows, from 0, with their areas, of an island's layers in a folder. Refused H2 where one does not
     tile."""

@@ -148,21 +148,56 @@ class Chords:
         )
 
 
-def straightened(geometries: Sequence[Any], scale: float) -> Tuple[Dict[int, Any], Chords]:
-    """By row the polygons of those geometries of OGR that have curves, and what became of these; `scale` mm a unit."""
-    rows = {at: _polygons(it) for at, it in enumerate(geometries) if it is not None and it.HasCurveGeometry(True)}
-    pieces = [piece for polygons in rows.values() for rings in polygons for ring in rings for piece in ring]
-    arcs = [piece for piece in pieces if isinstance(piece, Arc)]
-    step = _step([*pieces, *_straight(geometries, rows)], scale)
-    sagitta, reach = SAGITTA * step, REACH * step
-    curves = _curves(arcs, reach)
-    corners = {id(curve): curve.corners(sagitta, reach) for curve in curves}
+@dataclass(eq=False)
+class Drawn:
+    """The rows of a layer that have arcs, each as its polygons, these as rings, these as pieces; the step of its grid,
+    and `scale` mm a unit."""
+
+    rows: Dict[int, List[List[List[Piece]]]]
+    step: float
+    scale: float
+
+    @classmethod
+    def of(cls, geometries: Sequence[Any], scale: float) -> "Drawn":
+        """That of a layer's geometries of OGR, None for a row without one."""
+        rows = {at: _polygons(it) for at, it in enumerate(geometries) if it is not None and it.HasCurveGeometry(True)}
+        drawn = cls(rows, 0.0, scale)
+        drawn.step = _step([*drawn.pieces(), *_straight(geometries, rows)], scale)
+        return drawn
+
+    def pieces(self) -> List[Piece]:
+        """All its pieces."""
+        return [piece for polygons in self.rows.values() for rings in polygons for ring in rings for piece in ring]
+
+    def arcs(self) -> List[Arc]:
+        """All its arcs."""
+        return [piece for piece in self.pieces() if isinstance(piece, Arc)]
+
+
+def straightened(layers: Sequence[Drawn]) -> List[Tuple[Dict[int, Any], Chords]]:
+    """Of each layer the polygons of its rows with arcs, and what became of these: arcs of several layers have the same
+    chords where they lie on one curve."""
+    arcs = [arc for layer in layers for arc in layer.arcs()]
+    sagitta, reach = SAGITTA * min(it.step for it in layers), REACH * max(it.step for it in layers)
+    corners = {id(curve): curve.corners(sagitta, reach) for curve in _curves(arcs, reach)}
     between = {id(arc): _between(arc, corners, reach) for arc in arcs}
-    own = {tuple(point) for piece in pieces for point in (piece.points() if isinstance(piece, Arc) else piece).tolist()}
-    made = {tuple(point) for some in between.values() for point in some.tolist()} - own
-    shapes = {at: _shape(polygons, between) for at, polygons in rows.items()}
-    chords = sum(len(some) + 1 for some in between.values())
-    return shapes, Chords(len(arcs), chords, sagitta * scale, np.array(sorted(made), dtype=float).reshape(-1, 2))
+    return [_made(layer, between, sagitta) for layer in layers]
+
+
+def _made(layer: Drawn, between: Dict[int, Array], sagitta: float) -> Tuple[Dict[int, Any], Chords]:
+    """A layer's shapes, and what became of its arcs, which have these corners between their ends."""
+    own = {
+        tuple(point)
+        for piece in layer.pieces()
+        for point in (piece.points() if isinstance(piece, Arc) else piece).tolist()
+    }
+    arcs = layer.arcs()
+    made = {tuple(point) for arc in arcs for point in between[id(arc)].tolist()} - own
+    chords = sum(len(between[id(arc)]) + 1 for arc in arcs)
+    shapes = {at: _shape(polygons, between) for at, polygons in layer.rows.items()}
+    shapes = {at: shape for at, shape in shapes.items() if shape is not None}
+    corners = np.array(sorted(made), dtype=float).reshape(-1, 2)
+    return shapes, Chords(len(arcs), chords, sagitta * layer.scale, corners)
 
 
 def _step(pieces: Iterable[Piece], scale: float) -> float:
@@ -246,9 +281,12 @@ def _between(arc: Arc, corners: Dict[int, Tuple[Array, Array]], reach: float) ->
     return np.asarray(chosen[::-1] if runs_back else chosen)
 
 
-def _shape(polygons: List[List[List[Piece]]], between: Dict[int, Array]) -> Union[Polygon, MultiPolygon]:
-    """Polygons as shapes, their arcs as chords."""
-    made = [Polygon(rings[0], rings[1:]) for rings in ([_ring(ring, between) for ring in some] for some in polygons)]
+def _shape(polygons: List[List[List[Piece]]], between: Dict[int, Array]) -> Optional[Union[Polygon, MultiPolygon]]:
+    """Polygons as a shape, their arcs as chords; None of what is none, which stays as GDAL has it."""
+    rings = [[_ring(ring, between) for ring in some if ring] for some in polygons]
+    if not all(some and min(map(len, some)) > 3 for some in rings):
+        return None
+    made = [Polygon(outer, holes) for outer, *holes in rings]
     return made[0] if len(made) == 1 else MultiPolygon(made)
 
 

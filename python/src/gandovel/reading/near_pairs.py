@@ -12,7 +12,7 @@ from typing import Any, Dict, List, Optional
 import numpy as np
 
 from ..arrays import Array
-from ..exact.noding import near_pairs
+from ..exact.junctions import near_pairs
 from .loops import Loops
 
 FARTHEST, MOST = 300.0, 150.0
@@ -31,6 +31,8 @@ COMMON, CHANCE = 30.0, 0.1
 (mm)."""
 EDGES = (1e-4, 1e-3, 0.01, 0.1, 0.2, 0.5, 1.0, 2.0, 5.0, 10.0, 15.0, 20.0, 30.0, 50.0, 100.0, 150.0, 300.0)
 PROPOSED = 4
+USUAL = (1.42, 14.2, 142.0)
+"""How far off corners lie that were rounded to millimetres, centimetres or decimetres."""
 REACHING = 0.04
 """The least share of a noise's pairs in the upper half of its distances. Chosen beside one register, in which corners
 of faults, 0.02 of all pairs, had passed for the edge. In 125 others, tried afterwards, it changed nothing: what was
@@ -73,11 +75,17 @@ def noise_of_pairs(loops: Loops, points: Array, floor: float, made: Optional[Arr
             found.distance = 0.0 if distance <= exact else float(distance)
             return found
         blurred = blurred or _is_sharp(off[below:], below)
-        if distance > exact:
-            left = int((off[below:] <= MOST).sum())
-            found.proposed.append({"touch_mm": _rounded_up(float(distance)), "touching": below, "left": left})
-    found.proposed = [{"touch_mm": 0.0, "touching": 0, "left": int((off > exact).sum())}, *found.proposed[-PROPOSED:]]
+    found.proposed = _proposed(off, [_rounded_up(distance) for distance in _edges(off, exact)[1:]])
     return found
+
+
+def _proposed(off: Array, edges: List[float]) -> List[Dict[str, Any]]:
+    """Exactly, the last edges, and the usual roundings where no edge is near: how many pairs touch, how many do not."""
+    edges = edges[-PROPOSED:]
+    usual = [distance for distance in USUAL if not any(0.5 < distance / edge < 2 for edge in edges)]
+    counts = [(distance, int((off <= distance).sum()) if distance else 0) for distance in sorted([0.0, *edges, *usual])]
+    near = int((off <= MOST).sum())
+    return [{"touch_mm": distance, "touching": count, "left": near - count} for distance, count in counts]
 
 
 def _edges(off: Array, exact: float) -> List[float]:

@@ -1,14 +1,10 @@
 """What `prepare` makes: layers in whole millimetres, whose rows know their parcels; kept in a folder."""
 from __future__ import annotations
 
-import csv
-import json
-import os
-import shutil
-from dataclasses import asdict, dataclass, field
+from dataclasses import dataclass, field
 from functools import cached_property
 from pathlib import Path
-from typing import Any, Dict, List, Optional, Sequence, Tuple, Union
+from typing import Any, Dict, List, Sequence, Optional, Union
 
 import geopandas as gpd
 import numpy as np
@@ -19,108 +15,29 @@ from ..arrays import Array
 from ..errors import Refused
 from ..exact.city import OpenGap
 from ..faults.neighbours import Neighbour
-from ..out import descriptions
-from ..out.gpkg import Table, read_layer_of, read_table_of, write_layers
-from ..program.layer_files import read_rings, write_rings
+from ..out.gpkg import Table
 from ..shapes import point_wkb
 from .keys import key_of
 from .loops import ROLES
+from .rows import CHANGES, GATHERED, MOVED, OUT, OUT_ROW, PUT_IN, TOUCHED, Changes, Island, Rows, Skipped
 from .units import Unit
 
-OUT = "OUT"
-OUT_ROW = -1
-MOVED, PUT_IN, GATHERED, TOUCHED = range(4)
-CHANGES = ("moved", "put in", "gathered", "touched")
-
-
-@dataclass
-class Rows:
-    """The rows of a layer: record i + 1 is `rings[i]`, (k, 2) int64 in mm, of row `source[i]` and its part `part[i]`.
-
-    A row of -1 is the area outside (`OUT`), which `frame` adds.
-    """
-
-    rings: List[Array] = field(default_factory=list)
-    source: List[int] = field(default_factory=list)
-    part: List[int] = field(default_factory=list)
-
-
-@dataclass
-class Island:
-    """A connected part of the register: the city's ring, and the rows of parcels and zones in it."""
-
-    city: Array
-    parcels: Rows
-    zones: Optional[Rows] = None
-
-    def rows_of_zones(self) -> Rows:
-        """The rows of its zones; none where there are no zones."""
-        return self.zones if self.zones is not None else Rows()
-
-
-def _none(kind: type, *columns: int) -> Any:
-    """A field that is an array with no row."""
-    return field(default_factory=lambda: np.zeros((0, *columns), dtype=kind))
-
-
-@dataclass
-class Changes:
-    """Corners that `prepare` changed: one row of each array for each.
-
-    `change` is MOVED (to the grid), PUT_IN (into a border that it lies on), GATHERED (made one with another corner,
-    from which it differed by the noise of floating point) or TOUCHED (put into a border that it is off by no more than
-    the rounding of its layer, which goes through it now). `places` (n, 2) is where it was, in the layer's unit, and
-    `to` (n, 2) int64 the whole millimetre where it is. `distance` in mm, measured, is how far it moved, or how far off
-    the side it was that it was put into. `layer` and `row` are those of a ring that has it. `area` in mm2, measured, is
-    what the border went over that goes through it now, where this closed a gap or an overlap.
-    """
-
-    change: Array = _none(int)
-    places: Array = _none(float, 2)
-    to: Array = _none(int, 2)
-    distance: Array = _none(float)
-    layer: Array = _none(int)
-    row: Array = _none(int)
-    area: Array = _none(float)
-
-    @classmethod
-    def joined(cls, several: Sequence["Changes"]) -> "Changes":
-        """Changes, one behind the other."""
-        return cls(*(np.concatenate([getattr(one, name) for one in several]) for name in cls.__dataclass_fields__))
-
-    def told(self) -> Dict[str, Any]:
-        """For each kind of change how many corners, and the greatest distance, in mm; what touching closed, in m2."""
-        kinds = [self.distance[self.change == kind] for kind in range(len(CHANGES))]
-        counts = dict(zip(("moved", "put_in", "gathered"), map(len, kinds)))
-        names = ("largest_move", "largest_off", "largest_gathered", "largest_touch")
-        farthest = (float(distances.max(initial=0.0)) for distances in kinds)
-        touched = len(np.unique(self.to[self.change == TOUCHED], axis=0))
-        closed = float(self.area[(self.change == TOUCHED) & (self.layer < len(ROLES) - 1)].sum()) / 1e6
-        return {
-            **counts,
-            "touched": touched,
-            "closed_m2": closed,
-            **dict(zip(names, farthest)),
-            "measured": [*names, "closed_m2"],
-        }
-
-
-@dataclass
-class Skipped:
-    """A row that is left out: its layer and position (from 0), its number, why, and where (in the layer's unit)."""
-
-    role: str
-    row: int
-    number: str
-    reason: str
-    x: Optional[float] = None
-    y: Optional[float] = None
-
-    @classmethod
-    def of(cls, row: int, refused: Refused) -> "Skipped":
-        """What `--skip-invalid` makes of a refusal."""
-        told = refused.record_of()
-        return cls(refused.role, row, refused.number or "", f"{refused.code} {told['text']}", told["x"], told["y"])
+__all__ = [
+    "CHANGES",
+    "GATHERED",
+    "MOVED",
+    "OUT",
+    "OUT_ROW",
+    "PUT_IN",
+    "TOUCHED",
+    "Changes",
+    "Island",
+    "Prepared",
+    "Rows",
+    "Skipped",
+    "load",
+    "test_own",
+]
 
 
 @dataclass(repr=False)
@@ -264,61 +181,9 @@ class Prepared:
 
     def save(self, work: Union[str, Path]) -> None:
         """Writes the folder whole or not at all. One that was there is replaced where `prepare` made it, else P14."""
-        work = Path(work)
-        test_own(work)
-        aside = work.with_name(f".{os.getpid()}.{work.name}")
-        try:
-            aside.mkdir(parents=True)
-            self._write(aside)
-            _put_in_place(aside, work)
-        except OSError as fault:
-            raise Refused("P14", f"{work} can't be written: {fault}") from fault
-        finally:
-            shutil.rmtree(aside, ignore_errors=True)
+        from .folders import save
 
-    def _write(self, folder: Path) -> None:
-        for island, place in zip(self.islands, self.folders(folder)):
-            place.mkdir(exist_ok=True)
-            write_rings(place / "city.shp", [island.city])
-            write_rings(place / "parcels.shp", island.parcels.rings)
-            self._write_rows(place / "rows.csv", island.parcels, self.number, self.number_of)
-            if island.zones is not None:
-                write_rings(place / "zones.shp", island.zones.rings)
-                self._write_rows(place / "zone_rows.csv", island.zones, self.zone or "zone", self.zone_of)
-        write_layers(folder / "changes.gpkg", [("changes", self.changes_table())], notes=descriptions.CHANGES)
-        layers: List[Tuple[str, Union[gpd.GeoDataFrame, Table]]] = [("parcels", self.parcels_table)]
-        if self.zones is not None:
-            layers.append(("zones", self.zones))
-        write_layers(folder / "register.gpkg", layers)
-        (folder / "prepared.json").write_text(json.dumps(self._facts()))
-
-    def _facts(self) -> Dict[str, Any]:
-        """What `prepared.json` has: all that the layers of the folder have not."""
-        return {
-            "number": self.number,
-            "zone": self.zone,
-            "unit": asdict(self.unit),
-            "islands": len(self.islands),
-            "zones": self.zones is not None,
-            "crs": self.crs.to_wkt() if self.crs is not None else None,
-            "numbers": self.numbers,
-            "zone_names": self.zone_names,
-            "told": self.told,
-            "open_gaps": [gap.told() for gap in self.open_gaps],
-            "skipped": [asdict(one) for one in self.skipped],
-            "lost": self.lost,
-            "neighbours": [one.told() for one in self.neighbours],
-        }
-
-    @staticmethod
-    def _write_rows(path: Path, rows: Rows, number: str, named: Any) -> None:
-        with open(path, "w", newline="", encoding="utf-8") as file:
-            writer = csv.writer(file)
-            writer.writerow(["record", number, "FID", "part"])
-            writer.writerows(
-                (record, named(source), source, part)
-                for record, (source, part) in enumerate(zip(rows.source, rows.part), 1)
-            )
+        save(self, Path(work))
 
     def changes_frame(self) -> gpd.GeoDataFrame:
         """Each corner that was changed, where it was: change, layer, number, distance_mm, closed_m2, x_mm and y_mm.
@@ -362,28 +227,6 @@ def test_own(work: Path) -> None:
         raise Refused("P14", f"{work} is there and no folder that prepare made")
 
 
-def _counted(count: int) -> str:
-    return f"{count} invalid row{'' if count == 1 else 's'}"
-
-
-def _corners(count: int) -> str:
-    return f"{count or 'no'} corner{'' if count == 1 else 's'}"
-
-
-def _at_most(count: int, distance: float, what: str = "") -> str:
-    """How far corners are from where they were, as it is printed: with two decimals, or as a power of ten."""
-    text = f"{distance:.2f}" if distance >= 0.01 else f"{distance:.0e}" if distance else "0"
-    return f", at most {text} mm{what} (measured)" if count else ""
-
-
-def _put_in_place(aside: Path, work: Path) -> None:
-    former = work.with_name(f".{os.getpid()}.former.{work.name}")
-    if work.exists():
-        os.replace(work, former)
-    os.replace(aside, work)
-    shutil.rmtree(former, ignore_errors=True)
-
-
 def load(work: Union[str, Path]) -> Prepared:
     """What `Prepared.save` wrote.
 
@@ -412,72 +255,20 @@ def load(work: Union[str, Path]) -> Prepared:
     ...     gandovel.load(folder).numbers
     ['7']
     """
-    work = Path(work)
-    try:
-        facts = json.loads((work / "prepared.json").read_text())
-        register = work / "register.gpkg"
-        parcels = read_table_of(register, "parcels")
-        zones = read_layer_of(register, "zones") if facts["zones"] else None
-        prepared = Prepared(
-            parcels,
-            facts["numbers"],
-            facts["number"],
-            Unit(**facts["unit"]),
-            [],
-            zones,
-            facts["zone_names"],
-            facts["zone"],
-            Changes(),
-            facts["told"],
-            [OpenGap.of(gap) for gap in facts["open_gaps"]],
-            [Skipped(**one) for one in facts["skipped"]],
-            facts["lost"],
-            [Neighbour.of(one) for one in facts.get("neighbours", [])],
-        )
-        folders = [work] if facts["islands"] == 1 else [work / f"island_{at + 1}" for at in range(facts["islands"])]
-        prepared.islands = [_island(folder, facts["zones"]) for folder in folders]
-        if facts["told"]["touched"]:
-            prepared.changes = _touched_of(work / "changes.gpkg", prepared)
-        return prepared
-    except Refused:
-        raise
-    except Exception as fault:
-        raise Refused("P1", f"{work} is no folder that prepare made, or is torn: {fault}") from fault
+    from .folders import load as load_folder
+
+    return load_folder(Path(work))
 
 
-def _touched_of(path: Path, prepared: Prepared) -> Changes:
-    """The corners of `changes.gpkg` that were made to touch."""
-    frame = read_layer_of(path, "changes", CHANGES[TOUCHED])
-    layer = np.array([ROLES.index(role) for role in frame["layer"]], dtype=np.int64)
-    names_of: List[List[str]] = [prepared.numbers, prepared.zone_names, []]
-    positions: List[Dict[str, int]] = [
-        {name: row for row, name in reversed(list(enumerate(names)))} for names in names_of
-    ]
-    row = [positions[at].get(number, -1) for at, number in zip(layer.tolist(), frame["number"])]
-    return Changes(
-        np.full(len(frame), TOUCHED),
-        np.column_stack([frame.geometry.x, frame.geometry.y]),
-        frame[["x_mm", "y_mm"]].to_numpy(dtype=np.int64),
-        frame["distance_mm"].to_numpy(dtype=float),
-        layer,
-        np.array(row, dtype=np.int64),
-        frame["closed_m2"].to_numpy(dtype=float) * 1e6,
-    )
+def _counted(count: int) -> str:
+    return f"{count} invalid row{'' if count == 1 else 's'}"
 
 
-def _island(folder: Path, zones: bool) -> Island:
-    city = read_rings(folder / "city.shp")
-    return Island(
-        city[0],
-        _rows(folder, "parcels.shp", "rows.csv"),
-        _rows(folder, "zones.shp", "zone_rows.csv") if zones else None,
-    )
+def _corners(count: int) -> str:
+    return f"{count or 'no'} corner{'' if count == 1 else 's'}"
 
 
-def _rows(folder: Path, main: str, table: str) -> Rows:
-    rings = read_rings(folder / main)
-    with open(folder / table, newline="", encoding="utf-8") as file:
-        lines = list(csv.reader(file))[1:]
-    if len(lines) != len(rings):
-        raise Refused("P1", f"{folder / table} has {len(lines)} rows, and {main} {len(rings)} records")
-    return Rows(rings, [int(line[2]) for line in lines], [int(line[3]) for line in lines])
+def _at_most(count: int, distance: float, what: str = "") -> str:
+    """How far corners are from where they were, as it is printed: with two decimals, or as a power of ten."""
+    text = f"{distance:.2f}" if distance >= 0.01 else f"{distance:.0e}" if distance else "0"
+    return f", at most {text} mm{what} (measured)" if count else ""

@@ -6,8 +6,9 @@ import logging
 import os
 import re
 import tempfile
+import zipfile
 from pathlib import Path
-from typing import Any, Dict, List, Optional, Tuple, Union
+from typing import Any, Dict, List, Optional, Sequence, Tuple, Union
 
 import fiona
 import geopandas as gpd
@@ -18,7 +19,7 @@ from ..errors import Refused
 from ..large.reading import read_large
 from ..out.gpkg import typed
 from ..shapes import array_of
-from .curves import straightened
+from .curves import Drawn, straightened
 
 Source = Union[str, "os.PathLike[str]", gpd.GeoDataFrame, gpd.GeoSeries]
 """A layer: a path, or text that GDAL opens (`/vsizip/..`, `PG:..`, an URL of a file, `PATH|layername=NAME`), or
@@ -29,6 +30,9 @@ ANY_DRIVER = {"allow_unsupported_drivers": True}
 ANY = ("GeometryCollection", "3D GeometryCollection", "Unknown")
 AREAS = ("Polygon", "MultiPolygon", "3D Polygon", "3D MultiPolygon", *ANY)
 POINTS = ("Point", "3D Point", *ANY)
+LAYER_FILES = (".shp", ".gpkg", ".geojson", ".json", ".gml", ".xml", ".fgb", ".tab", ".dxf", ".kml", ".sqlite")
+"""How the names of files end that have layers."""
+MOST_NAMED = 4
 
 
 def frame_of(source: Source, role: str, layer: Optional[str] = None) -> gpd.GeoDataFrame:
@@ -80,7 +84,15 @@ def _advice_on(path: str) -> str:
     """What to do where a file can't be read: of a zip file, how GDAL opens it."""
     if not path.lower().endswith(".zip") or path.startswith("/vsi"):
         return ""
-    return f": of a zip file, name the layer within: /vsizip/{os.path.abspath(path)}/NAME (`unzip -l` lists the names)"
+    place = f"/vsizip/{os.path.abspath(path)}"
+    try:
+        with zipfile.ZipFile(path) as archive:
+            names = [name for name in archive.namelist() if name.lower().endswith(LAYER_FILES)]
+    except (OSError, zipfile.BadZipFile):
+        return ", and is no zip file that can be read"
+    if not names:
+        return f": of a zip file, name the layer within: {place}/NAME (`unzip -l` lists the names)"
+    return f": of a zip file, name the layer within: {', or '.join(f'{place}/{name}' for name in names[:MOST_NAMED])}"
 
 
 def _address(text: str, layer: Optional[str]) -> Tuple[str, Optional[str]]:
@@ -156,15 +168,25 @@ def _straightened(path: str, name: str, role: str) -> gpd.GeoDataFrame:
         except RuntimeError as fault:
             raise Refused("P1", f"{path} can't be read: {fault}", role=role) from fault
         frame = read_layer(straight, role)
-    shapes, chords = straightened(curved, _millimetres(frame.crs))
-    every = frame.geometry.to_numpy().copy()
-    for row, shape in shapes.items():
-        every[row] = shape
-    frame = frame.set_geometry(gpd.GeoSeries(array_of(every, frame.crs)))
-    frame.attrs.update(layer=name, chords=chords)
-    if chords.arcs:
-        frame.attrs["lost"] = [f"{role}: {chords.text()}", *frame.attrs["lost"]]
-    return frame
+    frame.attrs.update(layer=name, drawn=Drawn.of(curved, _millimetres(frame.crs)))
+    result: gpd.GeoDataFrame = with_chords([frame])[0]
+    return result
+
+
+def with_chords(frames: Sequence[Optional[gpd.GeoDataFrame]]) -> List[Any]:
+    """Layers with their arcs as chords, the same for all that lie on one curve; `.attrs["chords"]` says how many."""
+    drawn = [at for at, frame in enumerate(frames) if frame is not None and "drawn" in frame.attrs]
+    made: List[Any] = list(frames)
+    if not drawn or (len(drawn) == 1 and "chords" in made[drawn[0]].attrs):
+        return made
+    for at, (shapes, chords) in zip(drawn, straightened([made[at].attrs["drawn"] for at in drawn])):
+        frame = made[at]
+        every = frame.geometry.to_numpy().copy()
+        for row, shape in shapes.items():
+            every[row] = shape
+        made[at] = frame.set_geometry(gpd.GeoSeries(array_of(every, frame.crs)))
+        made[at].attrs.update(frame.attrs, chords=chords)
+    return made
 
 
 def _own_geometry(feature: Any) -> Any:

@@ -61,15 +61,18 @@ class Unit:
         return next(near, "units")
 
 
+def names_projection(crs: Any) -> bool:
+    """Whether a layer names a projection: a GeoPackage says by one of its own that it names none."""
+    return crs is not None and not str(CRS.from_user_input(crs).name).startswith(UNDEFINED)
+
+
 def unit_of(crs: Any, told: Union[str, float, None], bounds: Sequence[float], role: str) -> Unit:
     """The unit of a layer with this projection (or None) and these bounds (x, y, x, y), or the one that is told.
 
     Refused P7: no projection and no unit; degrees; areas that are off by more than 1 in 100, and no unit; a unit that
     is none.
     """
-    system = CRS.from_user_input(crs) if crs is not None else None
-    if system is not None and str(system.name).startswith(UNDEFINED):
-        system = None
+    system = CRS.from_user_input(crs) if names_projection(crs) else None
     if system is not None and (system.is_geographic or system.is_geocentric or not system.axis_info):
         if told is None or np.abs(np.asarray(bounds)).max() <= 400:
             text = f"the projection {system.name} is in degrees: project the layer first (a UTM zone, say)"
