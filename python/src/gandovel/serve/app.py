@@ -13,7 +13,7 @@ from starlette.routing import Match
 from ..errors import Refused
 from .faults import as_json
 from .models import Refusal
-from .routes import edits, features, pages, questions, state
+from .routes import edits, features, pages, parcels, places, state, styles, tiles
 from .routes.parameters import known_parameters
 from .site import Site, answer_of
 
@@ -37,11 +37,10 @@ def application(site: Site, issuer: Optional[str] = None) -> FastAPI:
         dependencies=[Depends(known_parameters)],
         responses={400: {"model": Refusal, "description": "a parameter or a body that is not understood"}},
     )
+    app.state.site, app.state.issuer = site, issuer
     _add_faults(app)
-    for router in (edits.router(site), questions.router(site)):  # the first ones are found soonest
-        app.include_router(router)
-    for router in (pages.router(site, app, issuer), features.router(site), state.router(site)):
-        app.include_router(router)
+    for module in (edits, places, parcels, pages, features, tiles, styles, state):  # the first ones are found soonest
+        app.include_router(module.router)
     return app
 
 

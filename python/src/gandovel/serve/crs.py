@@ -7,7 +7,7 @@ from typing import List, Optional, Sequence, Tuple
 import numpy as np
 from pyproj import CRS, Transformer
 from pyproj.exceptions import CRSError, ProjError
-from shapely.geometry import MultiPolygon, Polygon
+from shapely.geometry import MultiPolygon, Point, Polygon
 from shapely.geometry.base import BaseGeometry
 
 from ..arrays import Array
@@ -26,6 +26,8 @@ CONFIDENCE = 70
 """From which likeness on, of 100, PROJ takes a projection and an authority's code for the same."""
 RADIUS = 6_378_137.0
 """Metres of the sphere of Web Mercator."""
+FARTHEST = 1e14
+"""Millimetres from 0 beyond which no place is looked for: the program's coordinates end far before."""
 MARGIN = 0.001
 """Degrees that the register's own box is widened by: it is measured."""
 
@@ -128,10 +130,19 @@ class Projection:
             x, y = y, x
         if uri != self.uri:
             x, y = self._in.transform(*(_degrees_of(x, y) if uri == MERCATOR else (x, y)))
-        if not (np.isfinite(x) and np.isfinite(y)) or max(abs(x), abs(y)) * self.scale > 1e14:
+        if not (np.isfinite(x) and np.isfinite(y)) or max(abs(x), abs(y)) * self.scale > FARTHEST:
             raise BadRequest("x", "the place is too far out for the projection")
         whole = round(x * self.scale), round(y * self.scale)
         return (*whole, float(np.hypot(x * self.scale - whole[0], y * self.scale - whole[1])))
+
+    def point(self, x: float, y: float, uri: str) -> BaseGeometry:
+        """A place of a projection in mm, measured; no place where the projection is not defined."""
+        if uri == WGS84 or uri == self.uri and self._is_north_first:
+            x, y = y, x
+        if uri != self.uri:
+            x, y = self._in.transform(*(_degrees_of(x, y) if uri == MERCATOR else (x, y)))
+        is_place = np.isfinite(x) and np.isfinite(y) and max(abs(x), abs(y)) * self.scale < FARTHEST
+        return Point(x * self.scale, y * self.scale) if is_place else Point()
 
     def area(self, box: Sequence[float], uri: str) -> Optional[BaseGeometry]:
         """A box of a projection as an area in mm; None where the whole register is in it.

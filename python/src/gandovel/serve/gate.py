@@ -8,23 +8,18 @@ import time
 from functools import lru_cache
 from typing import Any, Awaitable, Callable, Dict, MutableMapping, Optional, Tuple
 
-from starlette.datastructures import Headers
-from starlette.responses import JSONResponse, Response
+from starlette.responses import JSONResponse
 from uvicorn.middleware.proxy_headers import ProxyHeadersMiddleware
 
-from ..errors import Refused
 from .access import LOCAL, ROLES, Client, Clients
-from .faults import Fault, as_json
+from .faults import as_json
 from .metrics import Metrics
-from .register import Register
 
 LOG = logging.getLogger("gandovel.serve")
 Message = MutableMapping[str, Any]
 Receive = Callable[[], Awaitable[Message]]
 Send = Callable[[Message], Awaitable[None]]
 App = Callable[[MutableMapping[str, Any], Receive, Send], Awaitable[None]]
-Edits = Callable[[str, Headers, bytes], Awaitable[Response]]
-"""The answer to an edit: the client's name, the headers and the body."""
 MOST_BODY = 1 << 20
 """Bytes of a request's body: a line of a session has at most as many."""
 BODY_SECONDS = 20.0
@@ -35,7 +30,6 @@ MOST_NAMES = 10_000
 """How many clients' rates are known at once."""
 _OPEN = re.compile(r"/|/health|/page/(map/)?[a-z_.]{1,40}")
 """What anyone may ask for: the page itself, which has nothing of the register, and whether it serves."""
-_LOCATE = re.compile(rb"x=(-?[0-9]{1,11})&y=(-?[0-9]{1,11})")
 _LOOPBACK = re.compile(r"(localhost|127\.[0-9.]+|\[::1\])(:[0-9]+)?")
 _ALWAYS = [
     (
@@ -99,8 +93,6 @@ class Gate:
     def __init__(
         self,
         app: App,
-        edits: Edits,
-        register: Register,
         clients: Optional[Clients],
         rate: float,
         metrics: Metrics,
@@ -112,8 +104,7 @@ class Gate:
         `connections` is how many connections the server has: of one client it takes half as many requests, and an
         eighth as many streams.
         """
-        self._app, self._edits = app, edits
-        self._register, self._clients, self._metrics = register, clients, metrics
+        self._app, self._clients, self._metrics = app, clients, metrics
         self._rates, self._shares = Rates(rate), Shares(connections)
         self._forwarded: Any = ProxyHeadersMiddleware(self._take, proxies)
 
@@ -162,19 +153,10 @@ class Gate:
         """Answers a request that may be answered; of HEAD as of GET, without the body."""
         if scope["method"] == "HEAD":
             scope = {**scope, "method": "GET"}
-        is_get = scope["method"] == "GET"
-        if is_get and scope["path"] == "/locate":
-            asked = _LOCATE.fullmatch(scope["query_string"])
-            if asked:
-                await self._locate(int(asked[1]), int(asked[2]), scope, receive, send)
-                return
         body: Receive = receive
-        if not is_get and not _is_here(scope):
+        if scope["method"] != "GET" and not _is_here(scope):
             body = _Body(receive)
-        if scope["path"] == "/edits" and scope["method"] == "POST" and not scope["query_string"]:
-            await self._edit(scope, body, send)
-        else:
-            await self._app(scope, body, send)
+        await self._app(scope, body, send)
 
     def _refusal(self, scope: MutableMapping[str, Any], headers: Dict[bytes, bytes]) -> Optional[Tuple[int, str, str]]:
         """Why a request goes no further: status, code and text; else None, and `scope` has its client."""
@@ -202,35 +184,6 @@ class Gate:
             return 413, "size", f"a body has at most {MOST_BODY} bytes"
         scope.setdefault("state", {})["client"] = client
         return None
-
-    async def _edit(self, scope: MutableMapping[str, Any], receive: Receive, send: Send) -> None:
-        """An edit goes past the framework, too."""
-        body, is_whole = b"", False
-        while not is_whole:
-            message = await receive()
-            if message["type"] == "http.disconnect":
-                text = f"a body has at most {MOST_BODY} bytes, and comes within {BODY_SECONDS:.0f} seconds"
-                await _refuse(send, scope, receive, 413, "size", text)
-                return
-            body += message.get("body", b"")
-            is_whole = not message.get("more_body", False)
-        response = await self._edits(scope["state"]["client"].name, Headers(raw=scope["headers"]), body)
-        await response(scope, receive, send)
-
-    async def _locate(self, x: int, y: int, scope: Any, receive: Receive, send: Send) -> None:
-        """The question that is asked most goes past the framework; what is unusual in it does not."""
-        try:
-            line = await self._register.locate_line(x, y)
-        except Fault as fault:
-            await _refuse(send, scope, receive, fault.status_code, fault.code, fault.text)
-            return
-        except Refused as fault:
-            await _refuse(send, scope, receive, 503, fault.code, "the register can't answer now: try again")
-            return
-        words = line.split(b" ")
-        content = b'{"entries":%s,"x":%d,"y":%d,"where":"%s","parcels":[%s]}'
-        body = content % (words[1], x, y, words[4], b",".join(words[5:]))
-        await _plain(send, 200, body, words[1])
 
 
 class _Enough(Exception):
@@ -327,11 +280,3 @@ async def _refuse(send: Send, scope: Any, receive: Receive, status: int, code: s
     if status in (429, 503):
         headers["retry-after"] = "1"
     await JSONResponse(as_json(status, code, text), status, headers)(scope, receive, send)
-
-
-async def _plain(send: Send, status: int, body: bytes, entries: bytes) -> None:
-    headers = [(b"content-type", b"application/json"), (b"content-length", b"%d" % len(body))]
-    if entries:
-        headers.append((b"gandovel-entries", entries))
-    await send({"type": "http.response.start", "status": status, "headers": headers})
-    await send({"type": "http.response.body", "body": body})

@@ -64,6 +64,15 @@ class EntryTold(BaseModel):
     edit: str = Field(description="as a line of a clerk's file")
     out: List[int] = Field(description="ids of the parcels that it took out")
     new: List[int] = Field(description="ids of the parcels that it brought")
+    digest: str = Field(description="SHA-256 of the journal's chain up to it: the clerk's receipt")
+
+
+class Proof(BaseModel):
+    """The digests that the journal's chain begins and ends with: that of the layer, and that of the newest entry."""
+
+    layer: str
+    entries: int
+    digest: str
 
 
 class Entries(BaseModel):
@@ -71,6 +80,7 @@ class Entries(BaseModel):
 
     entries: int
     records: List[EntryTold]
+    proof: Proof
 
 
 class Parcel(BaseModel):
@@ -92,6 +102,7 @@ class Parcels(BaseModel):
     """Parcels of one version."""
 
     entries: int
+    matched: int = Field(description="how many there are, on all pages")
     parcels: List[Parcel]
     next: Optional[str]
 
@@ -102,6 +113,7 @@ class History(BaseModel):
     parcel: int
     entries: int
     history: List[EntryTold]
+    proof: Proof
 
 
 class Ancestor(BaseModel):
@@ -122,6 +134,7 @@ class Lineage(BaseModel):
     parcel: int
     entries: int
     parcels: List[Ancestor]
+    proof: Proof
 
 
 class ParcelZones(BaseModel):
@@ -152,8 +165,92 @@ class Health(BaseModel):
     trouble: str
 
 
+class Open(BaseModel):
+    """An object that may have more members than are named."""
+
+    class Config:
+        extra = Extra.allow
+
+
+class Link(BaseModel):
+    """A link of an answer."""
+
+    href: str
+    rel: str
+    type: str
+    title: str
+    templated: Optional[bool]
+
+
+class Landing(BaseModel):
+    """Where all begins."""
+
+    title: str
+    description: str
+    links: List[Link]
+
+
+class Conformance(BaseModel):
+    """The classes of the standards that the server conforms to."""
+
+    conformsTo: List[str]
+
+
+class Collection(Open):
+    """A collection of features."""
+
+    id: str
+    title: str
+    description: str
+    itemType: Literal["feature"]
+    extent: Dict[str, Any]
+    crs: List[str]
+    storageCrs: Optional[str]
+    links: List[Link]
+
+
+class Collections(BaseModel):
+    """The collections."""
+
+    links: List[Link]
+    crs: List[str]
+    collections: List[Collection]
+
+
+class Schema(Open):
+    """A JSON schema."""
+
+    type: Literal["object"]
+    title: str
+    properties: Dict[str, Any]
+
+
+class Feature(BaseModel):
+    """A feature, as GeoJSON."""
+
+    type: Literal["Feature"]
+    id: int
+    geometry: Dict[str, Any]
+    properties: Dict[str, Any]
+    links: Optional[List[Link]]
+
+
+class FeatureCollection(BaseModel):
+    """A page of features, as GeoJSON."""
+
+    type: Literal["FeatureCollection"]
+    timeStamp: str
+    numberMatched: int
+    numberReturned: int
+    links: List[Link]
+    features: List[Feature]
+
+
 def told_by(model: Any, kind: str = "application/json", text: str = "the answer") -> Dict[Any, Dict[str, Any]]:
     """What the definition says of a success: the model, or any object of a media type where it is None."""
     if model is not None:
-        return {200: {"model": model, "description": text}}
+        if kind == "application/json":
+            return {200: {"model": model, "description": text}}
+        schema = {"$ref": f"#/components/schemas/{model.__name__}"}
+        return {200: {"content": {kind: {"schema": schema}}, "description": text}}
     return {200: {"content": {kind: {"schema": {"type": "object"}}}, "description": text}}

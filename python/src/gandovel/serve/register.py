@@ -44,8 +44,8 @@ KEPT_OVERLAPS = 4
 class Register:
     """The interface of the server to its register. For one event loop.
 
-    `entries` are the published entries in order, `versions` the rows of each version, `past` what became of each parcel,
-    `state` one of `starting`, `serving`, `restarting`, `broken` and `closed`.
+    `entries` are the published entries in order, `versions` the rows of each version, `past` what became of each
+    parcel, `state` one of `starting`, `serving`, `restarting`, `broken` and `closed`.
     """
 
     def __init__(self, layer: Layer, journal: Path, keep: int = 10_000) -> None:
@@ -312,6 +312,11 @@ class Register:
         lines = [line.decode() for line in await self._session.operator.report(line.encode())]
         test_error(lines[-1] if lines else "")
         return lines
+
+    @property
+    def layer_digest(self) -> str:
+        """SHA-256 of the layer, with which the journal's chain of digests begins; empty where there is no journal."""
+        return self._tail.layer if self._tail is not None else ""
 
     def health(self) -> Dict[str, Any]:
         """State, entries, and how often the session was started anew."""

@@ -29,7 +29,6 @@ from .layer import Layer
 from .metrics import Metrics
 from .register import Register
 from .representations import Representations
-from .routes.edits import answered_edit
 from .site import Site
 
 LOG = logging.getLogger("gandovel.serve")
@@ -231,9 +230,8 @@ async def _run(
     gc.freeze()  # what is there now stays: no search for what is lost goes through it
     metrics = Metrics(register)
     site, proxies = Site(register, metrics, options.url), os.environ.get("FORWARDED_ALLOW_IPS", "127.0.0.1")
-    edits = partial(answered_edit, site)
     within = Representations(application(site, options.oidc))
-    app: Any = Gate(within, edits, register, clients, options.rate, metrics, proxies, options.clients)
+    app: Any = Gate(within, clients, options.rate, metrics, proxies, options.clients)
     if options.cors:
         app = CORSMiddleware(app, options.cors, ("GET", "HEAD"), _CORS_TAKEN, expose_headers=_CORS_SHOWN, max_age=600)
     config = uvicorn.Config(
