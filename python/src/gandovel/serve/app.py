@@ -15,7 +15,7 @@ from .faults import as_json
 from .models import Refusal
 from .routes import edits, features, pages, parcels, places, state, styles, tiles
 from .routes.parameters import known_parameters
-from .site import Site, answer_of
+from .site import Site, answer_of, gone
 
 _TEXTS = {
     400: "the body can't be read: send it as the definition at /api has it",
@@ -61,9 +61,8 @@ def _add_faults(app: FastAPI) -> None:
             return Response(status_code=204, headers=headers)
         return JSONResponse(as_json(status, "address", _TEXTS.get(status, "no")), status, headers)
 
-    async def gone(request: Request, fault: Any) -> Response:
-        text = "a body has at most 1048576 bytes, and comes within 20 seconds"
-        return JSONResponse(as_json(413, "size", text), 413, {"connection": "close"})
+    async def cut(request: Request, fault: Any) -> Response:
+        return gone()
 
     async def fault(request: Request, fault: Any) -> Response:
         return JSONResponse(as_json(500, "fault", "the server has a fault here: tell its operator when"), 500)
@@ -72,7 +71,7 @@ def _add_faults(app: FastAPI) -> None:
     app.add_exception_handler(Refused, refused)
     app.add_exception_handler(RequestValidationError, invalid)
     app.add_exception_handler(HTTPException, none)
-    app.add_exception_handler(ClientDisconnect, gone)
+    app.add_exception_handler(ClientDisconnect, cut)
 
 
 def _methods_of(app: FastAPI, request: Request) -> List[str]:

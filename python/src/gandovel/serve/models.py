@@ -3,6 +3,7 @@ from __future__ import annotations
 
 from typing import TYPE_CHECKING, Any, Dict, List, Literal, Optional, Tuple
 
+from fastapi.responses import JSONResponse
 from pydantic import BaseModel, Extra, Field, conint, conlist
 
 from ..live.journals import FARTHEST
@@ -246,11 +247,21 @@ class FeatureCollection(BaseModel):
     features: List[Feature]
 
 
+class GeoJson(JSONResponse):
+    """Says of a route that it answers GeoJSON."""
+
+    media_type = "application/geo+json"
+
+
+class JsonSchema(JSONResponse):
+    """Says of a route that it answers a JSON schema."""
+
+    media_type = "application/schema+json"
+
+
 def told_by(model: Any, kind: str = "application/json", text: str = "the answer") -> Dict[Any, Dict[str, Any]]:
-    """What the definition says of a success: the model, or any object of a media type where it is None."""
+    """What the definition says of a success: the model, in the media type of the route's `response_class`; or any
+    object of a media type where it is None."""
     if model is not None:
-        if kind == "application/json":
-            return {200: {"model": model, "description": text}}
-        schema = {"$ref": f"#/components/schemas/{model.__name__}"}
-        return {200: {"content": {kind: {"schema": schema}}, "description": text}}
+        return {200: {"model": model, "description": text}}
     return {200: {"content": {kind: {"schema": {"type": "object"}}}, "description": text}}

@@ -22,6 +22,7 @@ from uvicorn.protocols.http.httptools_impl import HttpToolsProtocol
 from ..errors import Refused
 from .access import Clients, Tokens
 from .app import application
+from .direct import Direct
 from .door import Door, context_of
 from .faulty import FaultyRegister, is_of_layer
 from .gate import Gate
@@ -230,7 +231,8 @@ async def _run(
     gc.freeze()  # what is there now stays: no search for what is lost goes through it
     metrics = Metrics(register)
     site, proxies = Site(register, metrics, options.url), os.environ.get("FORWARDED_ALLOW_IPS", "127.0.0.1")
-    within = Representations(application(site, options.oidc))
+    inner = application(site, options.oidc)
+    within = Direct(inner, Representations(inner))
     app: Any = Gate(within, clients, options.rate, metrics, proxies, options.clients)
     if options.cors:
         app = CORSMiddleware(app, options.cors, ("GET", "HEAD"), _CORS_TAKEN, expose_headers=_CORS_SHOWN, max_age=600)

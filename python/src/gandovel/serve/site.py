@@ -75,6 +75,18 @@ def page_shown(request: Request, page: Page, title: str) -> Response:
     return Response(page.content, media_type=GEOJSON, headers=headers)
 
 
+class Ready(Response):
+    """An answer of JSON whose headers are known, made with as little as may be: each `locate` is one."""
+
+    def __init__(self, body: bytes, entries: int) -> None:
+        self.status_code, self.background, self.body = 200, None, body
+        self.raw_headers = [
+            (b"content-type", b"application/json"),
+            (b"content-length", b"%d" % len(body)),
+            (b"gandovel-entries", b"%d" % entries),
+        ]
+
+
 def versioned(body: Union[bytes, Dict[str, Any]], entries: int) -> Response:
     """A body as JSON, and of which version it is."""
     content = body if isinstance(body, bytes) else encoded(body)
@@ -89,6 +101,12 @@ def _header_of(link: Dict[str, str]) -> str:
     """A link as RFC 8288 has it."""
     address = link["href"].encode("ascii", "backslashreplace").decode()
     return f'<{address}>; rel="{link["rel"]}"; type="{link["type"]}"'
+
+
+def gone() -> Response:
+    """The answer where a body did not come whole: too long, too slow, or cut off."""
+    text = "a body has at most 1048576 bytes, and comes within 20 seconds"
+    return JSONResponse(as_json(413, "size", text), 413, {"connection": "close"})
 
 
 def answer_of(fault: Refused) -> Response:

@@ -7,9 +7,9 @@ from fastapi import APIRouter, Query, Request
 from fastapi.responses import Response
 
 from ..features import link
-from ..models import Collection, Collections, Feature, FeatureCollection, Schema, told_by
+from ..models import Collection, Collections, Feature, FeatureCollection, GeoJson, JsonSchema, Schema, told_by
 from ..schemas import KIND
-from ..site import GEOJSON, Site, page_shown, shown
+from ..site import Site, page_shown, shown
 from .parameters import COLLECTION, ENTRIES, FORM, SITE
 
 BBOX = Query(None, description="west,south,east,north, in the projection of bbox-crs")
@@ -48,7 +48,12 @@ async def collection(
     return shown(request, site.collections.told(collectionId, site.base(request)), collectionId)
 
 
-@router.get("/collections/{collectionId}/items", summary="Features", responses=told_by(FeatureCollection, GEOJSON))
+@router.get(
+    "/collections/{collectionId}/items",
+    summary="Features",
+    responses=told_by(FeatureCollection),
+    response_class=GeoJson,
+)
 async def items(
     request: Request,
     collectionId: str = COLLECTION,
@@ -73,7 +78,12 @@ async def items(
     return page_shown(request, page, collectionId)
 
 
-@router.get("/collections/{collectionId}/items/{featureId}", summary="A feature", responses=told_by(Feature, GEOJSON))
+@router.get(
+    "/collections/{collectionId}/items/{featureId}",
+    summary="A feature",
+    responses=told_by(Feature),
+    response_class=GeoJson,
+)
 async def item(
     request: Request,
     featureId: str,
@@ -96,7 +106,9 @@ def _add_schema(kind: str, text: str) -> None:
         return shown(request, body, f"{collectionId}: {kind}", KIND)
 
     path = f"/collections/{{collectionId}}/{kind}"
-    router.get(path, summary=text, responses=told_by(Schema, KIND), operation_id=f"{kind}_of")(schema)
+    router.get(path, summary=text, responses=told_by(Schema), response_class=JsonSchema, operation_id=f"{kind}_of")(
+        schema
+    )
 
 
 _add_schema("schema", "The properties of a collection, and their types")

@@ -17,7 +17,7 @@ from ..views import View, encoded, ring_text, with_more
 from .parameters import SITE, VERSION
 
 LIMIT = Query(100, ge=1, description=f"parcels of a page; more than {MOST_LIMIT} are taken as {MOST_LIMIT}")
-OFFSET = Query(0, ge=0, lt=10**15, description="how many parcels are left out; `next` has it")
+OFFSET = Query(0, ge=0, le=10**15 - 1, description="how many parcels are left out; `next` has it")
 BOX = Query(
     None,
     description="x,y,x,y in whole millimetres: those whose own box meets it",

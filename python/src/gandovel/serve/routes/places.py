@@ -13,7 +13,7 @@ from ...live.journals import FARTHEST
 from ..faults import BadRequest
 from ..models import ManyPlaces, Place, Points, told_by
 from ..register import Register
-from ..site import Site, versioned
+from ..site import Ready, Site, versioned
 from ..views import encoded
 from .parameters import SITE, DirectRoute, only, parameter, site_of
 
@@ -40,7 +40,7 @@ async def locate(request: Request) -> Response:
     entries, body = await _located(site.register, x, y)
     if off is not None:
         body = body[:-1] + b',"moved_mm":%b,"moved_how":"measured"}' % encoded(off)
-    return versioned(body, entries)
+    return Ready(body, entries)
 
 
 router.add_api_route(
