@@ -89,7 +89,7 @@ def selected(table, condition):
 
 
 def test_conformance(served):
-    """/conf/queryables, /conf/filter, /conf/features-filter; of CQL2 text, JSON, basic-cql2, basic-spatial-functions."""
+    """/conf/queryables, /conf/filter, /conf/features-filter; of CQL2 cql2-text, cql2-json, basic-cql2 and the like."""
     told = served.ask("/conformance").json()["conformsTo"]
     for name in ("queryables", "filter", "features-filter"):
         assert f"{PART3}/conf/{name}" in told

@@ -165,7 +165,7 @@ def test_all_days_are_there_after_a_start(served):
 
 
 def test_answers_tell_what_proves_them(served):
-    """The digest of each entry, by SHA-256 of the chain up to it: in the list, in histories, and as a clerk's receipt."""
+    """The digest of each entry, by SHA-256 of the chain up to it: in the list, in histories and in lineages."""
     header, *lines = served.journal.read_bytes().rstrip(b"\n").split(b"\n")
     digest = layer = header.rpartition(b" ")[2]
     digests = []

@@ -174,7 +174,7 @@ application.initQgis()
 layer = QgsVectorLayer("Polygon?crs=EPSG:25832&field=number:string&field=name:string", "parcels", "memory")
 text, is_loaded = layer.loadNamedStyle(sys.argv[1])
 symbol = layer.renderer().symbol()
-print(is_loaded, layer.labelsEnabled(), layer.labeling().settings().fieldName, symbol.color().name(), symbol.color().alpha())
+print(is_loaded, layer.labelsEnabled(), layer.labeling().settings().fieldName, symbol.color().name())
 """
 
 

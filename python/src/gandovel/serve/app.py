@@ -13,7 +13,7 @@ from starlette.routing import Match
 from ..errors import Refused
 from .faults import as_json
 from .models import Refusal
-from .routes import edits, features, pages, parcels, places, state, styles, tiles
+from .routes import drafts, edits, features, pages, parcels, places, state, styles, tiles
 from .routes.parameters import known_parameters
 from .site import Site, answer_of, gone
 
@@ -39,7 +39,17 @@ def application(site: Site, issuer: Optional[str] = None) -> FastAPI:
     )
     app.state.site, app.state.issuer = site, issuer
     _add_faults(app)
-    for module in (edits, places, parcels, pages, features, tiles, styles, state):  # the first ones are found soonest
+    for module in (
+        edits,
+        places,
+        parcels,
+        pages,
+        features,
+        tiles,
+        styles,
+        drafts,
+        state,
+    ):  # the first ones are found soonest
         app.include_router(module.router)
     return app
 

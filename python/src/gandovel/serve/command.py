@@ -47,6 +47,12 @@ def _add_server(one: Any) -> None:
     one.add_argument("--keyfile", metavar="FILE", help="its key, where that is another file")
     one.add_argument("--url", metavar="URL", help="the server's address as clients know it, behind a proxy")
     one.add_argument(
+        "--base-map",
+        type=_map_address,
+        metavar="URL",
+        help="a WMS with its layers, which the page shows below the parcels",
+    )
+    one.add_argument(
         "--rate", type=float, default=10_000.0, metavar="N", help="requests a second of one client (10000); 0 for any"
     )
     one.add_argument(
@@ -62,6 +68,15 @@ def _add_server(one: Any) -> None:
         default=10_000,
         metavar="N",
         help="versions that can be asked for: so many entries back (10000)",
+    )
+
+
+def _map_address(text: str) -> str:
+    """The address of a base map, as `https://maps.example/wms?layers=photo`."""
+    if re.fullmatch(r"https?://[A-Za-z0-9.:\[\]-]+(/[^\s'\";,]*)?", text):
+        return text
+    raise argparse.ArgumentTypeError(
+        "it begins with https:// and has the layers: https://maps.example/wms?layers=photo"
     )
 
 

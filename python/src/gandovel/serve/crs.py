@@ -64,7 +64,9 @@ class Projection:
         self.uri: Optional[str] = None
         if authority is not None:
             self.uri = f"http://www.opengis.net/def/crs/{authority[0]}/0/{authority[1]}"
-        self._is_north_first = _is_north_first(crs)
+        self.name: Optional[str] = None if authority is None else ":".join(authority)
+        """As `EPSG:25832`."""
+        self.is_north_first = _is_north_first(crs)
         try:
             self._out = Transformer.from_crs(crs, "OGC:CRS84", always_xy=True)
             self._in = Transformer.from_crs("OGC:CRS84", crs, always_xy=True)
@@ -116,7 +118,7 @@ class Projection:
         """Corners in mm (k, 2) as coordinates in the axes' order of a projection: degrees are rounded."""
         places = np.asarray(corners, dtype=float) / self.scale
         if uri == self.uri:
-            return places[:, ::-1] if self._is_north_first else places
+            return places[:, ::-1] if self.is_north_first else places
         degrees = np.asarray(np.round(np.column_stack(self._out.transform(*places.T)), DECIMALS))
         if uri == MERCATOR:
             return _mercator(degrees)
@@ -126,7 +128,7 @@ class Projection:
         """The nearest whole millimetres of a place in a projection, and how far off it is in mm (measured)."""
         if not (np.isfinite(x) and np.isfinite(y)):
             raise BadRequest("x", "x and y are numbers")
-        if uri == WGS84 or uri == self.uri and self._is_north_first:
+        if uri == WGS84 or uri == self.uri and self.is_north_first:
             x, y = y, x
         if uri != self.uri:
             x, y = self._in.transform(*(_degrees_of(x, y) if uri == MERCATOR else (x, y)))
@@ -137,7 +139,7 @@ class Projection:
 
     def point(self, x: float, y: float, uri: str) -> BaseGeometry:
         """A place of a projection in mm, measured; no place where the projection is not defined."""
-        if uri == WGS84 or uri == self.uri and self._is_north_first:
+        if uri == WGS84 or uri == self.uri and self.is_north_first:
             x, y = y, x
         if uri != self.uri:
             x, y = self._in.transform(*(_degrees_of(x, y) if uri == MERCATOR else (x, y)))
@@ -150,7 +152,7 @@ class Projection:
         In degrees it may go round the earth: first longitude above last.
         """
         if uri == self.uri:
-            low, high = _ends(box, self._is_north_first)
+            low, high = _ends(box, self.is_north_first)
             return _rectangle(low * self.scale, high * self.scale)
         if uri == MERCATOR:
             low, high = _ends(box, False)

@@ -68,7 +68,7 @@ class Follower:
             for parcel in made.out:
                 del born[parcel]
             born.update(dict.fromkeys(made.new, made.number))
-        rows = await _rows_of(self._asked_rows(list(born)))
+        rows = await rows_of(self._asked_rows(list(born)))
         self._published.begin(len(records), [(it[0], born[it[0]], *it[1:]) for it in rows])
         for record, made in zip(records, accepted):
             self._published.enter(Entry.of(record, made.out, made.new))
@@ -88,7 +88,7 @@ class Follower:
                 made = told[0] if told and told[1] == line else accepted_of(line.decode())
                 if made.number != entry.number or told and made != told[0]:
                     raise BadAnswer("T3", f"entry {entry.number} came out otherwise")
-                found = await _rows_of(rows if told else self._asked_rows(made.new))
+                found = await rows_of(rows if told else self._asked_rows(made.new))
                 del self.accepted[entry.number]
                 self.told.pop(entry.number, None)
                 self._published.publish(entry.with_ids(made.out, made.new), found)
@@ -109,12 +109,16 @@ class Follower:
         return bool(sent)
 
     def _asked_rows(self, parcels: Sequence[int]) -> List[AskedRow]:
-        """Asks the program for parcels as it has them then."""
         assert self.program is not None
-        return [(parcel, self.program.operator.put(b"parcel %d" % parcel)) for parcel in parcels]
+        return asked_rows(self.program, parcels)
 
 
-async def _rows_of(asked: Sequence[AskedRow]) -> List[RowRead]:
+def asked_rows(program: Program, parcels: Sequence[int]) -> List[AskedRow]:
+    """Asks a program for parcels as it has them then."""
+    return [(parcel, program.operator.put(b"parcel %d" % parcel)) for parcel in parcels]
+
+
+async def rows_of(asked: Sequence[AskedRow]) -> List[RowRead]:
     """The rows of the parcels that were asked for. Raises `BadAnswer`."""
     return [_row_of((await answer)[0], parcel) for parcel, answer in asked]
 

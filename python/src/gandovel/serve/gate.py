@@ -6,7 +6,8 @@ import logging
 import re
 import time
 from functools import lru_cache
-from typing import Any, Awaitable, Callable, Dict, MutableMapping, Optional, Tuple
+from typing import Any, Awaitable, Callable, Dict, List, MutableMapping, Optional, Tuple
+from urllib.parse import urlsplit
 
 from starlette.responses import JSONResponse
 from uvicorn.middleware.proxy_headers import ProxyHeadersMiddleware
@@ -14,6 +15,7 @@ from uvicorn.middleware.proxy_headers import ProxyHeadersMiddleware
 from .access import LOCAL, ROLES, Client, Clients
 from .faults import as_json
 from .metrics import Metrics
+from .shares import Rates, Shares, Unsent
 
 LOG = logging.getLogger("gandovel.serve")
 Message = MutableMapping[str, Any]
@@ -26,65 +28,16 @@ BODY_SECONDS = 20.0
 """Seconds that a client has to send a body."""
 SEND_SECONDS = 30.0
 """Seconds that a client may read nothing of what it is sent."""
-MOST_NAMES = 10_000
-"""How many clients' rates are known at once."""
 _OPEN = re.compile(r"/|/health|/page/(map/)?[a-z_.]{1,40}")
 """What anyone may ask for: the page itself, which has nothing of the register, and whether it serves."""
 _LOOPBACK = re.compile(r"(localhost|127\.[0-9.]+|\[::1\])(:[0-9]+)?")
-_ALWAYS = [
-    (
-        b"content-security-policy",
-        b"default-src 'self'; img-src 'self' data:; style-src 'self' 'unsafe-inline'; base-uri 'none'; "
-        b"form-action 'self'; frame-ancestors 'none'",
-    ),
-    (b"x-content-type-options", b"nosniff"),
-    (b"referrer-policy", b"no-referrer"),
-]
-_ALWAYS_BY_TLS = [*_ALWAYS, (b"strict-transport-security", b"max-age=31536000")]
+_POLICY = (
+    "default-src 'self'; img-src 'self' data:{}; style-src 'self' 'unsafe-inline'; base-uri 'none'; "
+    "form-action 'self'; frame-ancestors 'none'"
+)
+"""Where the page may load what from; a base map's pictures from its server, too."""
+_BY_TLS = (b"strict-transport-security", b"max-age=31536000")
 _FORWARDED = frozenset((b"x-forwarded-for", b"x-forwarded-proto"))
-
-
-class Rates:
-    """Requests a second of each client: so many at once, and as many again in each second."""
-
-    def __init__(self, each: float) -> None:
-        self._each = each
-        self._left: Dict[str, Tuple[float, float]] = {}
-
-    def takes(self, name: str) -> bool:
-        """Whether one more of this client's is taken now."""
-        if not self._each:
-            return True
-        now = time.monotonic()
-        left, then = self._left.get(name, (self._each, now))
-        left = min(self._each, left + (now - then) * self._each)
-        if name not in self._left and len(self._left) >= MOST_NAMES:
-            self._left.clear()
-        self._left[name] = (left - 1 if left >= 1 else left), now
-        return left >= 1
-
-
-class Shares:
-    """How much of the server each client has: requests under way, and streams among them."""
-
-    def __init__(self, clients: int) -> None:
-        self._most = max(1, clients // 2), max(1, clients // 8)
-        self._counts: Tuple[Dict[str, int], Dict[str, int]] = ({}, {})
-
-    def begin(self, name: str, is_stream: bool) -> bool:
-        """Whether one more of this client's is taken; `end` it then."""
-        counts, most = self._counts[is_stream], self._most[is_stream]
-        count = counts.get(name, 0)
-        if count < most:
-            counts[name] = count + 1
-        return count < most
-
-    def end(self, name: str, is_stream: bool) -> None:
-        """One of this client's has ended."""
-        counts = self._counts[is_stream]
-        counts[name] -= 1
-        if not counts[name]:
-            del counts[name]
 
 
 class Gate:
@@ -98,14 +51,21 @@ class Gate:
         metrics: Metrics,
         proxies: str,
         connections: int = 1000,
+        base_map: Optional[str] = None,
     ) -> None:
         """`app` is the application within, `proxies` the addresses of those whose word on their client is taken.
 
         `connections` is how many connections the server has: of one client it takes half as many requests, and an
-        eighth as many streams.
+        eighth as many streams. `base_map` is an address that the page has pictures of.
         """
         self._app, self._clients, self._metrics = app, clients, metrics
-        self._rates, self._shares = Rates(rate), Shares(connections)
+        self._rates, self._shares, self._unsent = Rates(rate), Shares(connections), Unsent()
+        pictures = "" if base_map is None else " {0.scheme}://{0.netloc}".format(urlsplit(base_map))
+        self._always = [
+            (b"content-security-policy", _POLICY.format(pictures).encode()),
+            (b"x-content-type-options", b"nosniff"),
+            (b"referrer-policy", b"no-referrer"),
+        ]
         self._forwarded: Any = ProxyHeadersMiddleware(self._take, proxies)
 
     async def __call__(self, scope: MutableMapping[str, Any], receive: Receive, send: Send) -> None:
@@ -118,7 +78,7 @@ class Gate:
 
     async def _take(self, scope: MutableMapping[str, Any], receive: Receive, send: Send) -> None:
         begun = time.perf_counter()
-        sent = _Sent(send, scope)
+        sent = _Sent(send, scope, self._always)
         try:
             await self._answer(scope, receive, sent)
         except _Enough:
@@ -140,6 +100,9 @@ class Gate:
         client: Optional[Client] = scope["state"]["client"]
         name = client.name if client else (scope.get("client") or ("",))[0]
         is_stream = scope["path"] == "/changes"
+        if not self._unsent.takes(name):
+            await _refuse(send, scope, receive, 429, "unread", "you have not read what you were sent: read it first")
+            return
         if not self._shares.begin(name, is_stream):
             text = "too many requests of yours are under way: send the next one when one is answered"
             await _refuse(send, scope, receive, 429, "share", text)
@@ -148,6 +111,8 @@ class Gate:
             await self._hand_on(scope, receive, send)
         finally:
             self._shares.end(name, is_stream)
+            if send.connection is not None:
+                self._unsent.note(name, send.connection)
 
     async def _hand_on(self, scope: MutableMapping[str, Any], receive: Receive, send: "_Sent") -> None:
         """Answers a request that may be answered; of HEAD as of GET, without the body."""
@@ -193,22 +158,23 @@ class _Enough(Exception):
 class _Sent:
     """Hands on what is sent, within a time, with the headers that all answers have; and knows the status."""
 
-    def __init__(self, send: Send, scope: MutableMapping[str, Any]) -> None:
-        self._send, self._connection = send, scope.get("gandovel.connection")
-        self._is_head, self._is_tls = scope["method"] == "HEAD", scope["scheme"] == "https"
+    def __init__(self, send: Send, scope: MutableMapping[str, Any], always: List[Tuple[bytes, bytes]]) -> None:
+        self._send, self.connection = send, scope.get("gandovel.connection")
+        self._is_head = scope["method"] == "HEAD"
+        self._always = [*always, _BY_TLS] if scope["scheme"] == "https" else always
         self.status = 0
 
     async def __call__(self, message: Message) -> None:
         if message["type"] == "http.response.start":
             self.status = message["status"]
-            message["headers"] = [*message["headers"], *(_ALWAYS_BY_TLS if self._is_tls else _ALWAYS)]
+            message["headers"] = [*message["headers"], *self._always]
         elif self._is_head:
             await self._hand_on({"type": "http.response.body", "body": b""})
             raise _Enough
         await self._hand_on(message)
 
     async def _hand_on(self, message: Message) -> None:
-        if self._connection is not None and not self._connection.flow.write_paused:
+        if self.connection is not None and not self.connection.flow.write_paused:
             await self._send(message)  # it waits for nothing then
             return
         async with asyncio.timeout(SEND_SECONDS):
@@ -216,8 +182,8 @@ class _Sent:
 
     def cut_off(self) -> None:
         """Ends the connection without a wait for what it has not read."""
-        if self._connection is not None:
-            self._connection.transport.abort()
+        if self.connection is not None:
+            self.connection.transport.abort()
 
 
 class _Body:
@@ -270,7 +236,7 @@ def _is_own(headers: Dict[bytes, bytes]) -> bool:
 def _role_for(path: str, method: str) -> int:
     if path.startswith("/metrics"):
         return 2
-    return 1 if path.startswith("/edits") and method not in ("GET", "HEAD") else 0
+    return 1 if path.startswith(("/edits", "/drafts")) and method not in ("GET", "HEAD") else 0
 
 
 async def _refuse(send: Send, scope: Any, receive: Receive, status: int, code: str, text: str) -> None:

@@ -156,6 +156,44 @@ class Overlay(BaseModel):
     within: List[List[int]]
 
 
+class DraftTold(BaseModel):
+    """An edit that is kept and not made yet."""
+
+    id: str
+    who: str
+    time: str = Field(description="UTC")
+    why: str
+    edit: str = Field(description="as a line of a clerk's file")
+    at: int = Field(description="after how many entries it was kept")
+    parcels: List[int] = Field(description="ids of the parcels that it would take out")
+    stale_by: Optional[EntryTold] = Field(description="the first entry since then that concerns one of them")
+
+
+class DraftsTold(BaseModel):
+    """The drafts, the oldest first."""
+
+    drafts: List[DraftTold]
+
+
+class NewParcel(BaseModel):
+    """A parcel that a draft would bring."""
+
+    id: int
+    area2_mm2: str
+    area_m2: float
+    ring_mm: List[List[int]]
+    zones: List[str]
+
+
+class DraftSeen(DraftTold):
+    """A draft, and what it would be now."""
+
+    entries: int
+    out: List[int]
+    new: List[NewParcel]
+    refused: Optional[str] = Field(description="why it could not be made now")
+
+
 class Health(BaseModel):
     """Whether the register is open."""
 
@@ -164,6 +202,20 @@ class Health(BaseModel):
     kept_from: int
     restarts: int
     trouble: str
+
+
+class Settings(BaseModel):
+    """What the page needs to know of the register before it loads parcels."""
+
+    entries: int
+    parcels: int
+    box_mm: List[int] = Field(description="the box of all parcels: least x and y, greatest x and y")
+    crs: Optional[str] = Field(description="the own projection, as `crs` of items has it")
+    epsg: Optional[str]
+    unit_mm: float = Field(description="millimetres of the projection's unit")
+    north_first: bool = Field(description="whether the projection's first coordinate is northing")
+    zones: bool
+    base_map: Optional[str]
 
 
 class Open(BaseModel):

@@ -11,9 +11,10 @@ import resource
 import socket
 import ssl
 import sys
+from collections import Counter
 from functools import partial
 from pathlib import Path
-from typing import Any, ClassVar, Dict, Optional
+from typing import Any, ClassVar, Dict, Optional, Tuple
 
 import uvicorn
 from starlette.middleware.cors import CORSMiddleware
@@ -58,11 +59,19 @@ class Connection(HttpToolsProtocol):  # type: ignore[misc]
     """Those that a request's head is awaited of, and since when, the oldest first."""
     _idle: ClassVar[Dict["Connection", None]] = {}
     """Those whose last request was answered, the one that is idle for longest first."""
+    _of: ClassVar[Counter[str]] = Counter()
+    """How many there are of each address, but for proxies'."""
+    proxies: ClassVar[Tuple[str, ...]] = ("127.0.0.1",)
     _watch: ClassVar[Optional[asyncio.TimerHandle]] = None
     """It looks for those that are late, where there are any."""
 
     def connection_made(self, transport: Any) -> None:
         super().connection_made(transport)
+        self._address = str((self.client or ("",))[0])
+        self._of[self._address] += 1
+        if self._is_too_much():
+            transport.abort()
+            return
         if self.limit_concurrency and len(self.connections) >= self.limit_concurrency:
             for quiet in self._idle or self._silent:
                 quiet._too_slow()
@@ -72,7 +81,16 @@ class Connection(HttpToolsProtocol):  # type: ignore[misc]
             return
         self._wait()
 
+    def _is_too_much(self) -> bool:
+        """Whether this address has more than half of the connections. Proxies and others of no address may."""
+        if not self.limit_concurrency or self._address in ("", *self.proxies) or "*" in self.proxies:
+            return False
+        return bool(self._of[self._address] > max(1, self.limit_concurrency // 2))
+
     def connection_lost(self, exc: Optional[Exception]) -> None:
+        self._of[self._address] -= 1
+        if not self._of[self._address]:
+            del self._of[self._address]
         self._silent.pop(self, None)
         self._idle.pop(self, None)
         super().connection_lost(exc)
@@ -230,10 +248,12 @@ async def _run(
     register = await _started(register, options.island)
     gc.freeze()  # what is there now stays: no search for what is lost goes through it
     metrics = Metrics(register)
-    site, proxies = Site(register, metrics, options.url), os.environ.get("FORWARDED_ALLOW_IPS", "127.0.0.1")
+    base_map = getattr(options, "base_map", None)
+    site, proxies = Site(register, metrics, options.url, base_map), os.environ.get("FORWARDED_ALLOW_IPS", "127.0.0.1")
     inner = application(site, options.oidc)
     within = Direct(inner, Representations(inner))
-    app: Any = Gate(within, clients, options.rate, metrics, proxies, options.clients)
+    Connection.proxies = tuple(it.strip() for it in proxies.split(","))
+    app: Any = Gate(within, clients, options.rate, metrics, proxies, options.clients, base_map)
     if options.cors:
         app = CORSMiddleware(app, options.cors, ("GET", "HEAD"), _CORS_TAKEN, expose_headers=_CORS_SHOWN, max_age=600)
     config = uvicorn.Config(

@@ -10,6 +10,7 @@ from fastapi.responses import HTMLResponse, JSONResponse, Response
 
 from ..errors import JournalBroken, NoMemory, NoSuchLine, NoZones, Refused, RefusedEdit, SessionError
 from .faults import BadRequest, Fault, as_json, parcel_of, words_of
+from .drafts import Drafts
 from .features import Collections
 from .items import Items, Page
 from .metrics import Metrics
@@ -23,13 +24,17 @@ GEOJSON = "application/geo+json"
 
 
 class Site:
-    """The register with all that its answers need. `base` is the server's address as clients know it."""
+    """The register with all that its answers need. `base` is the server's address as clients know it, and `base_map` a
+    WMS that the page shows below the parcels."""
 
-    def __init__(self, register: Register, metrics: Metrics, base: Optional[str] = None) -> None:
-        self.register, self.metrics, self._base = register, metrics, base
+    def __init__(
+        self, register: Register, metrics: Metrics, base: Optional[str] = None, base_map: Optional[str] = None
+    ) -> None:
+        self.register, self.metrics, self._base, self.base_map = register, metrics, base, base_map
         self.collections = Collections(register)
         self.items = Items(register, self.collections)
         self.tiles = Tiles(self.collections, register.layer.projection)
+        self.drafts = Drafts(register)
         self.begun = secrets.token_hex(4)
         """Of this run of the server: an older one may have made the same version otherwise."""
 

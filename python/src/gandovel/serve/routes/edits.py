@@ -2,7 +2,7 @@
 from __future__ import annotations
 
 import re
-from typing import Any, Dict, Optional
+from typing import Any, Awaitable, Dict, Optional, Tuple
 
 from fastapi import APIRouter, Request
 from fastapi.responses import Response
@@ -11,9 +11,10 @@ from pydantic import schema_of
 from ...errors import Refused
 from ...live.journals import MOST_WORD, Said
 from ..edit_bodies import EditBody, edit_of
-from ..entries import Asked
+from ..entries import Asked, Entry
 from ..faults import BadRequest, NotServing
 from ..models import EntryTold, Refusal, told_by
+from ..site import Site
 from .parameters import DirectRoute, only, parameter, site_of
 
 _KEY = re.compile(r"[\x21-\x7e]{1,100}")
@@ -30,7 +31,7 @@ ANSWERS = {
 router = APIRouter(tags=["Register"], route_class=DirectRoute)
 
 
-def _told() -> Dict[str, Any]:
+def edit_told() -> Dict[str, Any]:
     """What the definition says of an edit's parameters and its body."""
     schema = dict(schema_of(EditBody, title="Edit", ref_template="#/components/schemas/{model}"))
     content = {"application/json": {"schema": schema}, "text/plain": {"schema": {"type": "string"}}}
@@ -43,22 +44,27 @@ def _told() -> Dict[str, Any]:
     return {"parameters": parameters, "requestBody": {"content": content, "required": True}}
 
 
-@router.post("/edits", summary="Makes an edit", openapi_extra=_told(), responses=ANSWERS)
+@router.post("/edits", summary="Makes an edit", openapi_extra=edit_told(), responses=ANSWERS)
 async def edit(request: Request) -> Response:
     """An edit as JSON, or a line of a clerk's file as text/plain. 200 comes once the journal has it on the disk."""
+    line, reason = await body_of(request)
+    site, given = site_of(request), request.headers
+    asked = Asked(line, said_of(request.state.client.name, reason, key_of(given.get("idempotency-key"))))
+    return await made(site, site.register.submit(asked, at_of(given.get("if-match"))))
+
+
+async def body_of(request: Request) -> Tuple[str, str]:
+    """The edit that a request has, as a line, and its reason. Raises `BadRequest`."""
     only(request, "why")
     why = request.query_params.get("why")
-    line, reason = edit_of(await request.body(), request.headers.get("content-type", "application/json"), why)
-    return await made(request, line, reason)
+    return edit_of(await request.body(), request.headers.get("content-type", "application/json"), why)
 
 
-async def made(request: Request, line: str, reason: str, more: str = "") -> Response:
-    """The answer to an edit of a clerk's; `more` is what the record has of others. Raises as `Register.submit`."""
-    site, given = site_of(request), request.headers
-    asked = Asked(line, said_of(request.state.client.name, reason + more, key_of(given.get("idempotency-key"))))
-    at, refused = at_of(given.get("if-match")), site.metrics.refused
+async def made(site: Site, submitted: Awaitable[Tuple[Entry, bool]]) -> Response:
+    """The answer to an edit that is under way. Raises as `Register.submit`."""
+    refused = site.metrics.refused
     try:
-        entry, is_repeated = await site.register.submit(asked, at)
+        entry, is_repeated = await submitted
     except TimeoutError:
         refused.labels("unknown").inc()
         text = "whether the edit was made is not known yet: send it again with the same key"

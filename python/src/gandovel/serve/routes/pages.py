@@ -9,10 +9,10 @@ from fastapi.responses import HTMLResponse, Response
 
 from ..faults import NoSuchThing
 from ..features import CONFORMANCE, link
-from ..models import Conformance, Landing, told_by
+from ..models import Conformance, Landing, Settings, told_by
 from ..openapi import definition
 from ..pages import HERE, openapi_html
-from ..site import OPENAPI, Site, kind_of, shown
+from ..site import OPENAPI, Site, kind_of, shown, versioned
 from ..views import encoded
 from .parameters import FORM, SITE
 
@@ -51,6 +51,25 @@ async def api(request: Request, f: Optional[str] = FORM, site: Site = SITE) -> R
     if kind_of(request) == "html":
         return HTMLResponse(openapi_html(document))
     return Response(encoded(document), media_type=OPENAPI)
+
+
+@router.get("/settings", summary="What the page begins with", responses=told_by(Settings))
+async def settings(site: Site = SITE) -> Response:
+    """How many parcels there are, where, in which projection; and the base map."""
+    register, projection = site.register, site.register.layer.projection
+    view = await site.collections.view("parcels", None)
+    body = {
+        "entries": view.entries,
+        "parcels": len(view.places()),
+        "box_mm": [int(it) for it in view.versions.bounds()],
+        "crs": projection.uri,
+        "epsg": projection.name,
+        "unit_mm": projection.scale,
+        "north_first": projection.is_north_first,
+        "zones": register.layer.zones is not None,
+        "base_map": site.base_map,
+    }
+    return versioned(body, view.entries)
 
 
 @router.get("/page/{name:path}", include_in_schema=False)
