@@ -45,13 +45,14 @@ def qml_style(name: str) -> str:
     options = {"color": colour, "outline_color": _rgb(line), "outline_width": "0.26", "style": "solid"}
     told = "".join(f"<prop k={quoteattr(key)} v={quoteattr(value)}/>" for key, value in options.items())
     text = f'<text-style fieldName={quoteattr(_NUMBERS[name])} isExpression="0" fontSize="8" textColor="27,29,31,255"/>'
-    place = '<placement placement="1" centroidInside="1"/><rendering scaleVisibility="1" scaleMin="5000" scaleMax="1"/>'
+    place = '<placement placement="1" centroidInside="1"/>'
+    place += '<rendering scaleVisibility="1" scaleMin="5000" scaleMax="1"/>'
     return (
         '<!DOCTYPE qgis PUBLIC "http://mrcc.com/qgis.dtd" "SYSTEM">\n'
         '<qgis version="3.22" styleCategories="Symbology|Labeling" labelsEnabled="1">\n'
         '<renderer-v2 type="singleSymbol" symbollevels="0" enableorderby="0" forceraster="0"><symbols>'
-        f'<symbol type="fill" name="0" alpha="1" clip_to_extent="1"><layer class="SimpleFill" enabled="1" pass="0">{told}'
-        "</layer></symbol></symbols></renderer-v2>\n"
+        '<symbol type="fill" name="0" alpha="1" clip_to_extent="1"><layer class="SimpleFill" enabled="1" pass="0">'
+        f"{told}</layer></symbol></symbols></renderer-v2>\n"
         f'<labeling type="simple"><settings>{text}{place}</settings></labeling>\n</qgis>\n'
     )
 

@@ -140,14 +140,14 @@ const drawing = {
 
 
 /** A register of more parcels than are loaded at once: the squares that are seen are, each once. */
-const MOST_AT_ONCE = 20000, IN_A_CELL = 400, MOST_CELLS = 30;
+const IN_A_CELL = 400, MOST_CELLS = 30;
 const cells = {
-  side: 0, loaded: new Set(),
+  most: 20000, side: 0, loaded: new Set(),
 
   /** Whether parcels are loaded by squares. */
   begin({ parcels, box_mm: [x0, y0, x1, y1] }) {
     cells.loaded.clear();
-    cells.side = parcels > MOST_AT_ONCE ? Math.ceil(Math.sqrt((x1 - x0) * (y1 - y0) * IN_A_CELL / parcels)) : 0;
+    cells.side = parcels > cells.most ? Math.ceil(Math.sqrt((x1 - x0) * (y1 - y0) * IN_A_CELL / parcels)) : 0;
     return cells.side > 0;
   },
 
