@@ -336,16 +336,14 @@ def test_a_large_register_is_loaded_by_what_is_seen(served, browser):
         "cells.most = 5; cells.asked = 0; register.follow = () => {};"
         "const load = cells.load; cells.load = (it) => { cells.asked++; return load(it); };"
     )
-    browser.execute_script("cells.loaded.clear(); register.load()")
-    until(lambda: browser.execute_script("return cells.side") > 0)
+    browser.execute_script("register.load().then(() => { window.isLoaded = true; })")
+    until(lambda: browser.execute_script("return window.isLoaded"))
+    assert browser.execute_script("return cells.side") > 0
     browser.execute_script(
+        "register.parcels.clear(); drawing.parcels.setLayer('parcels', []); cells.loaded.clear(); cells.asked = 0;"
         "cells.side = Math.ceil(cells.side / 12); drawing.showPlace(cells.first(register.settings.box_mm), 0.95)"
     )
-    until(lambda: browser.execute_script("return cells.asked") > 0)
-    browser.execute_script(
-        "register.parcels.clear(); drawing.parcels.setLayer('parcels', []); cells.loaded.clear(); cells.look()"
-    )
-    until(lambda: 0 < len(window.drawn()))
+    until(lambda: browser.execute_script("return cells.asked") > 0 and 0 < len(window.drawn()))
     assert len(window.drawn()) < count and f"{count} parcels" in window.text("state")
     window.choose("A13")
     until(lambda: 13 in window.drawn())
@@ -374,3 +372,26 @@ def test_a_base_map_is_below_the_parcels(tmp_path, browser):
             and north > box[1]
             and east - west == pytest.approx(north - south)
         )
+
+
+def test_a_draft_is_kept_seen_and_dropped(served, browser):
+    """It is drawn and told as it would be; its own clerk can't approve it; the journal has none of it."""
+    window, before = Window(browser, served.address), served.lines()
+    ring = served.ask("/parcels/14").json()["ring_mm"]
+    window.choose("A14")
+    window.press('[data-tool="split"]')
+    window.click_place(ring[0])
+    window.click_place(ring[2])
+    until(lambda: window.text("reason") == "It can be sent.")
+    window.press("#keep")
+    until(lambda: window.text("answer").startswith("Kept as a draft. It would bring "))
+    assert "split of A14 by local" in window.text("kept") and "m²" in window.text("answer")
+    see, approve, drop = browser.find_elements("css selector", "#kept button")
+    see.click()
+    until(lambda: browser.execute_script("return drawing.draft.getLayers().length") == 2)
+    assert window.text("answer").startswith("It would bring ")
+    approve.click()
+    until(lambda: "another clerk has to approve it" in window.text("answer"))
+    browser.find_elements("css selector", "#kept button")[2].click()
+    until(lambda: window.text("kept") == "")
+    assert served.lines() == before and served.ask("/drafts").json() == {"drafts": []}

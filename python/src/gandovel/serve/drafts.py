@@ -50,7 +50,7 @@ class Draft:
 
 @dataclass(frozen=True)
 class Seen:
-    """An edit as it would be after `entries` entries: the parcels that go, and the rows and zones of those that come."""
+    """An edit as it would be after so many entries: the parcels that go, and the rows and zones of those that come."""
 
     entries: int
     out: Tuple[int, ...]
@@ -146,7 +146,7 @@ def _read(path: Path) -> List[Draft]:
     """The drafts of a file. Refused W2."""
     try:
         told: List[Dict[str, Any]] = json.loads(path.read_bytes())
-        return [Draft(**{**it, "parcels": tuple(it["parcels"])}) for it in told]
+        return [Draft(parcels=tuple(it.pop("parcels")), **it) for it in told]
     except (OSError, ValueError, TypeError, KeyError):
         raise Refused("W2", f"{path} has no drafts as they were written: move it away, and keep them anew") from None
 
@@ -155,17 +155,17 @@ async def _tried(register: Register, program: Program, edit: str) -> Seen:
     """Makes all entries by a run of the program, and then the edit, of which the journal hears nothing."""
     lines, entries = program.operator, list(register.entries)
     for at in range(0, len(entries), AHEAD):
-        for answer in [lines.put(it.edit.encode()) for it in entries[at : at + AHEAD]]:
-            test_error((await answer)[0].decode())
+        for told in [lines.put(it.edit.encode()) for it in entries[at : at + AHEAD]]:
+            test_error((await told)[0].decode())
     answer = (await lines.put(edit.encode()))[0].decode()
     test_error(answer)
     made = accepted_of(answer)
     rows = await rows_of(asked_rows(program, made.new))
     zones: Dict[int, List[str]] = {}
     if register.layer.zones is not None:
-        told = [line.decode() for line in await lines.report(b"overlay")]
-        test_error(told[-1] if told else "")
-        overlaps = await asyncio.get_running_loop().run_in_executor(None, overlaps_of, told)
+        pairs = [line.decode() for line in await lines.report(b"overlay")]
+        test_error(pairs[-1] if pairs else "")
+        overlaps = await asyncio.get_running_loop().run_in_executor(None, overlaps_of, pairs)
         for parcel in made.new:
             records = overlaps.pairs[overlaps.pairs[:, 0] == parcel, 1].tolist()
             zones[parcel] = register.layer.zone_names(records)

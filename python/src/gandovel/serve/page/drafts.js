@@ -150,7 +150,7 @@ const drafts = {
   check() {
     const reason = drafts.reason(register.draft);
     $("reason").textContent = reason || "It can be sent.";
-    $("send").disabled = Boolean(reason);
+    $("send").disabled = $("keep").disabled = Boolean(reason);
     drawing.path(drafts.path(register.draft));
   },
 

@@ -42,6 +42,7 @@ const register = {
     if (settings.zones && settings.crs) drawing.zones();
     await cells.look();
     register.tell();
+    kept.list();
     register.follow();
   },
 
@@ -80,6 +81,7 @@ const register = {
     register.tell(entry);
     if (register.chosen !== null && [...entry.out, ...entry.new].includes(register.chosen)) register.choose(register.chosen);
     if (register.draft) drafts.check();
+    if ($("kept").childElementCount) kept.list();
   },
 
   tell(entry) {
@@ -174,6 +176,7 @@ $("cancel").addEventListener("click", drafts.cancel);
 $("put").addEventListener("click", drafts.type);
 $("take-corner").addEventListener("click", drafts.corner);
 $("take-neighbour").addEventListener("click", drafts.neighbour);
+$("keep").addEventListener("click", () => kept.keep().catch((fault) => { $("answer").textContent = fault.message; }));
 $("print").addEventListener("click", () => Sheet.print(register.chosen));
 $("place").addEventListener("keydown", (event) => { if (event.key === "Enter") { event.preventDefault(); drafts.type(); } });
 $("undo").addEventListener("click", drafts.undo);
