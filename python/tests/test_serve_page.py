@@ -341,7 +341,8 @@ def test_a_large_register_is_loaded_by_what_is_seen(served, browser):
     assert browser.execute_script("return cells.side") > 0
     browser.execute_script(
         "register.parcels.clear(); drawing.parcels.setLayer('parcels', []); cells.loaded.clear(); cells.asked = 0;"
-        "cells.side = Math.ceil(cells.side / 12); drawing.showPlace(cells.first(register.settings.box_mm), 0.95)"
+        "const box = register.settings.box_mm; cells.side = Math.ceil((box[2] - box[0]) / 12);"
+        "drawing.showPlace(cells.first(box), 0.95)"
     )
     until(lambda: browser.execute_script("return cells.asked") > 0 and 0 < len(window.drawn()))
     assert len(window.drawn()) < count and f"{count} parcels" in window.text("state")
