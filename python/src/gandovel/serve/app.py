@@ -26,11 +26,24 @@ _TEXTS = {
 
 def application(site: Site, issuer: Optional[str] = None) -> FastAPI:
     """The application of a register."""
-    app = FastAPI(
-        title="A parcel register",
-        version="1.1.0",
-        description="Parcels that tile a city, exactly, by a formally verified program. Coordinates of edits and of "
+    app = bare_application(
+        "A parcel register",
+        "Parcels that tile a city, exactly, by a formally verified program. Coordinates of edits and of "
         "`/locate` are whole millimetres.",
+    )
+    for router in (edits.router(site), questions.router(site)):  # the first ones are found soonest
+        app.include_router(router)
+    for router in (pages.router(site, app, issuer), features.router(site), state.router(site)):
+        app.include_router(router)
+    return app
+
+
+def bare_application(title: str, description: str) -> FastAPI:
+    """An application without routes, that answers what is refused."""
+    app = FastAPI(
+        title=title,
+        version="1.1.0",
+        description=description,
         openapi_url=None,
         docs_url=None,
         redoc_url=None,
@@ -38,10 +51,6 @@ def application(site: Site, issuer: Optional[str] = None) -> FastAPI:
         responses={400: {"model": Refusal, "description": "a parameter or a body that is not understood"}},
     )
     _add_faults(app)
-    for router in (edits.router(site), questions.router(site)):  # the first ones are found soonest
-        app.include_router(router)
-    for router in (pages.router(site, app, issuer), features.router(site), state.router(site)):
-        app.include_router(router)
     return app
 
 

@@ -6,7 +6,7 @@ import logging
 import re
 import time
 from functools import lru_cache
-from typing import Any, Awaitable, Callable, Dict, MutableMapping, Optional, Tuple
+from typing import Any, Awaitable, Callable, Dict, MutableMapping, Optional, Protocol, Tuple
 
 from starlette.datastructures import Headers
 from starlette.responses import JSONResponse, Response
@@ -16,7 +16,6 @@ from ..errors import Refused
 from .access import LOCAL, ROLES, Client, Clients
 from .faults import Fault, as_json
 from .metrics import Metrics
-from .register import Register
 
 LOG = logging.getLogger("gandovel.serve")
 Message = MutableMapping[str, Any]
@@ -93,6 +92,13 @@ class Shares:
             del counts[name]
 
 
+class Locating(Protocol):
+    """What says where a point lies."""
+
+    async def locate_line(self, x: int, y: int) -> bytes:
+        """The program's line on a point (mm)."""
+
+
 class Gate:
     """The application that uvicorn calls; what passes goes to the one within."""
 
@@ -100,7 +106,7 @@ class Gate:
         self,
         app: App,
         edits: Edits,
-        register: Register,
+        register: Locating,
         clients: Optional[Clients],
         rate: float,
         metrics: Metrics,
@@ -138,20 +144,20 @@ class Gate:
         except Exception:
             LOG.exception("a request was not answered")
             if not sent.status:
-                await _refuse(sent, scope, receive, 500, "fault", "the server has a fault here: tell its operator when")
+                await refuse(sent, scope, receive, 500, "fault", "the server has a fault here: tell its operator when")
         self._metrics.answered(scope["path"], sent.status, time.perf_counter() - begun)
 
     async def _answer(self, scope: MutableMapping[str, Any], receive: Receive, send: "_Sent") -> None:
         refusal = self._refusal(scope, dict(scope["headers"]))
         if refusal is not None:
-            await _refuse(send, scope, receive, *refusal)
+            await refuse(send, scope, receive, *refusal)
             return
         client: Optional[Client] = scope["state"]["client"]
         name = client.name if client else (scope.get("client") or ("",))[0]
         is_stream = scope["path"] == "/changes"
         if not self._shares.begin(name, is_stream):
             text = "too many requests of yours are under way: send the next one when one is answered"
-            await _refuse(send, scope, receive, 429, "share", text)
+            await refuse(send, scope, receive, 429, "share", text)
             return
         try:
             await self._hand_on(scope, receive, send)
@@ -210,7 +216,7 @@ class Gate:
             message = await receive()
             if message["type"] == "http.disconnect":
                 text = f"a body has at most {MOST_BODY} bytes, and comes within {BODY_SECONDS:.0f} seconds"
-                await _refuse(send, scope, receive, 413, "size", text)
+                await refuse(send, scope, receive, 413, "size", text)
                 return
             body += message.get("body", b"")
             is_whole = not message.get("more_body", False)
@@ -222,15 +228,15 @@ class Gate:
         try:
             line = await self._register.locate_line(x, y)
         except Fault as fault:
-            await _refuse(send, scope, receive, fault.status_code, fault.code, fault.text)
+            await refuse(send, scope, receive, fault.status_code, fault.code, fault.text)
             return
         except Refused as fault:
-            await _refuse(send, scope, receive, 503, fault.code, "the register can't answer now: try again")
+            await refuse(send, scope, receive, 503, fault.code, "the register can't answer now: try again")
             return
         words = line.split(b" ")
         content = b'{"entries":%s,"x":%d,"y":%d,"where":"%s","parcels":[%s]}'
         body = content % (words[1], x, y, words[4], b",".join(words[5:]))
-        await _plain(send, 200, body, words[1])
+        await plain(send, 200, body, words[1])
 
 
 class _Enough(Exception):
@@ -320,7 +326,8 @@ def _role_for(path: str, method: str) -> int:
     return 1 if path.startswith("/edits") and method not in ("GET", "HEAD") else 0
 
 
-async def _refuse(send: Send, scope: Any, receive: Receive, status: int, code: str, text: str) -> None:
+async def refuse(send: Send, scope: Any, receive: Receive, status: int, code: str, text: str) -> None:
+    """Answers a request that is not carried out."""
     headers = {"connection": "close"} if status in (413, 500) else {}
     if status == 401:
         headers["www-authenticate"] = 'Bearer realm="register", Basic realm="register"'
@@ -329,7 +336,8 @@ async def _refuse(send: Send, scope: Any, receive: Receive, status: int, code: s
     await JSONResponse(as_json(status, code, text), status, headers)(scope, receive, send)
 
 
-async def _plain(send: Send, status: int, body: bytes, entries: bytes) -> None:
+async def plain(send: Send, status: int, body: bytes, entries: bytes) -> None:
+    """Answers by a body of JSON, and of which version it is."""
     headers = [(b"content-type", b"application/json"), (b"content-length", b"%d" % len(body))]
     if entries:
         headers.append((b"gandovel-entries", entries))

@@ -56,7 +56,7 @@ async def answered_edit(site: Site, name: str, headers: Headers, body: bytes) ->
 
 async def _made(site: Site, name: str, given: Headers, why: Optional[str], body: bytes) -> Response:
     line, reason = edit_of(body, given.get("content-type", "application/json"), why)
-    asked = Asked(line, _said(name, reason, _key(given.get("idempotency-key"))))
+    asked = Asked(line, said_by(name, reason, key_of(given.get("idempotency-key"))))
     at, refused = _at(given.get("if-match")), site.metrics.refused
     try:
         entry, is_repeated = await site.register.submit(asked, at)
@@ -84,14 +84,15 @@ def _body_told() -> Dict[str, Any]:
     return {"requestBody": {"content": content, "required": True}}
 
 
-def _key(text: Optional[str]) -> Optional[str]:
+def key_of(text: Optional[str]) -> Optional[str]:
+    """The key of `Idempotency-Key`. Raises `BadRequest`."""
     if text is None or _KEY.fullmatch(text):
         return text
     raise BadRequest("Idempotency-Key", "a key is 1 to 100 signs of ASCII without a space")
 
 
-def _said(name: str, why: str, key: Optional[str]) -> Said:
-    """What the journal's record has of a client."""
+def said_by(name: str, why: str, key: Optional[str]) -> Said:
+    """What the journal's record has of a client. Raises `BadRequest`."""
     said = Said(name, why, key)
     size = len(said.word.encode())
     if size > MOST_WORD:
