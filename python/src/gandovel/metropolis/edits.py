@@ -5,7 +5,7 @@ import os
 import secrets
 from contextlib import AsyncExitStack
 from pathlib import Path
-from typing import Any, Dict, List, NamedTuple, Optional, Sequence, Tuple
+from typing import Any, Dict, List, NamedTuple, Optional, Sequence, Set, Tuple
 
 from ..errors import JournalBroken, Refused, RefusedEdit
 from ..live.journals import Said
@@ -42,6 +42,8 @@ class Edits:
     def __init__(self, metropolis: Metropolis) -> None:
         self._all = metropolis
         self._pending = metropolis.now.journals / PENDING
+        self._unsettled: List[Path] = []
+        """Notes of edits of which it was not known whether they were made."""
 
     async def submit(self, line: str, said: Said, at: Vector) -> Made:
         """Makes an edit, whose line has global ids, once all versions are as `at` says, where it names some.
@@ -136,6 +138,7 @@ class Edits:
             if any(district.is_retired for district in districts):
                 return None
             registers = [await stack.enter_async_context(district.open()) for district in districts]
+            await self._settle_those({district.number for district in districts})
             last, deciding = districts[-1], registers[-1]
             if said.key is not None and await knows(deciding, said.name, said.key):
                 entry, _ = await self._submitted(last, deciding, line, said, None)
@@ -159,7 +162,8 @@ class Edits:
                 made.append((half.district.number, entry))
         except Refused as fault:
             if not (isinstance(fault, _NOT_MADE) or fault.code == "not made"):
-                raise  # it is not known whether it was made: the note stays, and the next start sees to it
+                self._unsettled.append(note)  # it is not known whether it was made: the next one sees to it, or a start
+                raise
             for half in halves[: len(made)]:
                 await self._taken_back(half)
             note.unlink()
@@ -197,6 +201,15 @@ class Edits:
             if path.suffix == ".json":
                 await self._settle(read_json(path))
             path.unlink()
+
+    async def _settle_those(self, districts: Set[int]) -> None:
+        """The same of these districts, while the server runs; no other edit of theirs is under way."""
+        for path in list(self._unsettled):
+            told = read_json(path)
+            if districts.issuperset(half["district"] for half in told["halves"]):
+                await self._settle(told)
+                path.unlink()
+                self._unsettled.remove(path)
 
     async def _settle(self, told: Dict[str, Any]) -> None:
         *firsts, last = told["halves"]
