@@ -183,7 +183,8 @@ def whole_of(
     why = [] if layer.tiles else [f"the layer of districts does not ({layer.code})"]
     if layer.tiles and bad and all(it.verdict == "misfiled" for it in bad):
         names = shortened([it.name for it in bad])
-        return Whole(layer.name, count, "misfiled", f"all parcels tile, and the filing is wrong in {names}", layer=layer)
+        said = f"all parcels tile, and the filing is wrong in {names}"
+        return Whole(layer.name, count, "misfiled", said, layer=layer)
     if bad:
         names = shortened([f"{it.name} ({it.code})" for it in bad])
         why.append(f"{count - len(bad)} of {count} districts tile; not {names}")
