@@ -34,7 +34,8 @@ def test_two_exchanged_files(tmp_path):
     (whole,) = summary.wholes
     assert (whole.kind, whole.tiles, summary.status) == ("misfiled", False, 1)
     assert whole.said.startswith(
-        "all parcels tile, and the filing is wrong: the edges of d0, d2 cancel one another: parcel record 1 of d0 lies in d2"
+        "all parcels tile, and the filing is wrong: the edges of d0, d2 cancel one another: "
+        "parcel record 1 of d0 lies in d2"
     )
     assert summary.lines()[0] == "4 cities: 1 tile, 2 refused (H2 2), 1 misfiled"
     assert (summary.gaps, summary.overlaps, summary.crossings) == (0, 0, 8)

@@ -9,11 +9,12 @@ import sqlite3
 import numpy as np
 import pytest
 
+from gandovel.cli import main
 from gandovel.metropolis.manifest import is_metropolis
 from gandovel.program.layer_files import read_rings, write_rings
-from metropolis_city import A_DISTRICT, DISTRICTS, Clerk, entries_of, metropolis, parcels_of, sides_of
+from metropolis_city import A_DISTRICT, DISTRICTS, Clerk, Forked, entries_of, metropolis, parcels_of, sides_of
 from metropolis_city import test_against_whole as against_whole
-from served import Served
+from served import tokens, until
 
 EDITS = int(os.environ.get("GANDOVEL_EDITS", 12))
 """Edits of each clerk that are accepted."""
@@ -28,7 +29,7 @@ def prepared(tmp_path_factory):
 
 @pytest.fixture
 def served(prepared, tmp_path):
-    with Served(prepared, tmp_path / "journals") as it:
+    with Forked(prepared, tmp_path / "journals") as it:
         yield it
 
 
@@ -201,18 +202,46 @@ def test_points_and_boxes_over_districts(served):
 
 
 def test_districts_sleep_and_wake(prepared, tmp_path):
-    with Served(prepared, tmp_path / "journals", "--awake", "2") as served:
+    with Forked(prepared, tmp_path / "journals", "--awake", "2") as served:
         assert served.ask("/health").json()["awake"] == {}
+        assert served.ask("/parcels?limit=1").json()["matched"] == 81
+        assert served.ask("/collections/parcels/items?limit=1").json()["numberMatched"] == 81
+        assert list(served.ask("/health").json()["awake"]) == ["1"]
         parcels = parcels_of(served)
         for it in [next(it for it in parcels if it["id"] // A_DISTRICT == at) for at in range(1, DISTRICTS + 1)]:
             (a, c) = it["ring_mm"][0], it["ring_mm"][2]
             assert served.edit(f"split {it['id']} {a[0]} {a[1]} {c[0]} {c[1]}").status_code == 200
-        from served import until
-
         until(lambda: len(served.ask("/health").json()["awake"]) <= 2)
         assert served.ask("/health").json()["entries"] == ",".join(f"{it}:1" for it in range(1, DISTRICTS + 1))
         assert len(entries_of(served)) == DISTRICTS
         assert len(parcels_of(served)) == 81 + DISTRICTS
+
+
+def test_who_may(prepared, tmp_path):
+    known = tokens(tmp_path / "tokens", eva="reader", anna="clerk")
+    with Forked(prepared, tmp_path / "journals", "--tokens", str(tmp_path / "tokens")) as served:
+        assert [served.ask(path).status_code for path in ("/health", "/", "/districts", "/entries")] == [
+            200,
+            *[401] * 3,
+        ]
+        served.token = known["eva"]
+        one = served.ask("/parcels?number=A1").json()["parcels"][0]
+        (a, c), line = (one["ring_mm"][0], one["ring_mm"][2]), f"split {one['id']}"
+        assert served.ask("/", headers={"Accept": "text/html"}).text.count("<tr>") == DISTRICTS + 1
+        assert served.edit(f"{line} {a[0]} {a[1]} {c[0]} {c[1]}").status_code == 403
+        served.token = known["anna"]
+        made = served.edit(f"{line} {a[0]} {a[1]} {c[0]} {c[1]}")
+        assert made.status_code == 200 and made.json()["who"] == "anna"
+        for path in (
+            "/entries?after=1:x",
+            "/parcels?bbox=1,2,3",
+            "/parcels?limit=0",
+            "/locate?x=1&y=z",
+            "/parcels?z=1",
+        ):
+            assert served.ask(path).status_code == 400, path
+        assert served.ask("/parcels/99000000001").status_code == 404
+        assert served.ask("/collections/parcels/items?entries=1:77").status_code == 404
 
 
 def copied(prepared, tmp_path):
@@ -221,63 +250,58 @@ def copied(prepared, tmp_path):
     return tmp_path / "layer"
 
 
-def refusal_of(folder, journals):
+def refusal_of(folder, journals, capsys):
     """Why a server does not start."""
-    import subprocess
-    import sys
-
-    from served import environment
-
-    command = [sys.executable, "-m", "gandovel", "serve", str(folder), "--journal", str(journals), "--port", "0"]
-    ended = subprocess.run(command, capture_output=True, text=True, timeout=600, env=environment())
-    assert ended.returncode == 1 and ended.stdout == "", ended
-    return ended.stderr
+    assert main(["serve", str(folder), "--journal", str(journals), "--port", "0"]) == 1
+    said = capsys.readouterr()
+    assert said.out == ""
+    return said.err
 
 
-def test_a_tampered_outline_is_refused(prepared, tmp_path):
+def test_a_tampered_outline_is_refused(prepared, tmp_path, capsys):
     folder = copied(prepared, tmp_path)
     outlines = read_rings(folder / "districts.shp")
     outlines[3][1] += 100
     write_rings(folder / "districts.shp", outlines)
-    assert "W8 district 4: the layer in" in refusal_of(folder, tmp_path / "journals")
+    assert "W8 district 4: the layer in" in refusal_of(folder, tmp_path / "journals", capsys)
     city = folder / "districts/4/city.shp"
     write_rings(city, [outlines[3]])
-    assert f"W8 district 4: {city} is not as it was written" in refusal_of(folder, tmp_path / "journals")
+    assert f"W8 district 4: {city} is not as it was written" in refusal_of(folder, tmp_path / "journals", capsys)
     manifest = json.loads((folder / "metropolis.json").read_text())
     from gandovel.metropolis.manifest import sums_of
 
     manifest["districts"][3]["files"] = sums_of(folder / "districts/4")
     (folder / "metropolis.json").write_text(json.dumps(manifest))
-    assert "W8 the outlines of island 1 do not tile its city" in refusal_of(folder, tmp_path / "journals")
+    assert "W8 the outlines of island 1 do not tile its city" in refusal_of(folder, tmp_path / "journals", capsys)
 
 
-def test_a_district_with_the_layer_of_another_is_refused(prepared, tmp_path):
+def test_a_district_with_the_layer_of_another_is_refused(prepared, tmp_path, capsys):
     folder = copied(prepared, tmp_path)
     shutil.rmtree(folder / "districts/2")
     shutil.copytree(folder / "districts/5", folder / "districts/2")
-    assert "W8 district 2: the layer in" in refusal_of(folder, tmp_path / "journals")
+    assert "W8 district 2: the layer in" in refusal_of(folder, tmp_path / "journals", capsys)
     shutil.copy(prepared / "districts/2/city.shp", folder / "districts/2/city.shp")
     shutil.copy(prepared / "districts/2/city.shx", folder / "districts/2/city.shx")
-    assert "W8 district 2:" in refusal_of(folder, tmp_path / "journals")
+    assert "W8 district 2:" in refusal_of(folder, tmp_path / "journals", capsys)
 
 
-def test_exchanged_journals_are_refused(prepared, tmp_path):
-    with Served(prepared, tmp_path / "journals") as served:
+def test_exchanged_journals_are_refused(prepared, tmp_path, capsys):
+    with Forked(prepared, tmp_path / "journals") as served:
         parcels_of(served)
         served.end()
     one, other = (tmp_path / "journals" / f"district_{at}.txt" for at in (3, 8))
     one.rename(tmp_path / "aside")
     other.rename(one)
     (tmp_path / "aside").rename(other)
-    text = refusal_of(prepared, tmp_path / "journals")
+    text = refusal_of(prepared, tmp_path / "journals", capsys)
     assert f"W8 district 3: the journal {one} is of district 8" in text
 
 
-def test_a_second_server_and_a_file_for_a_journal_are_refused(served, prepared, tmp_path):
-    assert "in use" in refusal_of(prepared, served.journal)
+def test_a_second_server_and_a_file_for_a_journal_are_refused(served, prepared, tmp_path, capsys):
+    assert "in use" in refusal_of(prepared, served.journal, capsys)
     (tmp_path / "file").write_text("")
-    assert "W2" in refusal_of(prepared, tmp_path / "file")
-    assert "W2" in refusal_of(prepared, prepared / "journals")
+    assert "W2" in refusal_of(prepared, tmp_path / "file", capsys)
+    assert "W2" in refusal_of(prepared, prepared / "journals", capsys)
 
 
 def test_what_prepare_writes(prepared):

@@ -3,67 +3,73 @@ from __future__ import annotations
 
 import os
 import random
-import re
 import signal
-import subprocess
-import sys
 import time
 
 import pytest
 import requests
 
+from gandovel.metropolis import recut
+from gandovel.metropolis.edits import Edits
+from gandovel.metropolis.office import Metropolis
 from gandovel.program.layer_files import read_rings
-from metropolis_city import A_DISTRICT, DISTRICTS, Clerk, entries_of, metropolis, parcels_of, sides_of
+from metropolis_city import A_DISTRICT, DISTRICTS, Clerk, Forked, entries_of, metropolis, parcels_of, sides_of
 from metropolis_city import test_against_whole as against_whole
-from served import SECONDS, Served, environment
+from served import SECONDS
 
 KILLS = int(os.environ.get("GANDOVEL_KILLS", 6))
 CLERKS, EDITS = 4, int(os.environ.get("GANDOVEL_EDITS", 8))
 POINTS = {"exported": 0, "outlines": 0, "layer": 0, "synchronised": 0, "renamed": 1, "opened": 1, "exchanged": 1}
 """Where a recut is killed, and whether the new pair stands then."""
-DRIVER = """
-import os, signal, sys
-from gandovel.cli import main
-from gandovel.metropolis import recut
-from gandovel.metropolis.office import Metropolis
+
 
 def die(*given):
+    """The end of this process, at once."""
     os.kill(os.getpid(), signal.SIGKILL)
 
-def before(of, name):
+
+def dying_before(of, name):
+    """Has the process die where a call is made."""
     setattr(of, name, die)
 
-def after(of, name):
+
+def dying_after(of, name):
+    """Has the process die where a call has been made."""
     whole = getattr(of, name)
-    def dying(*given):
-        whole(*given)
-        die()
-    setattr(of, name, dying)
-
-{"exported": lambda: before(recut, "_pieces"), "outlines": lambda: after(recut._Recut, "_write_outlines"),
- "layer": lambda: after(recut._Recut, "_written"), "synchronised": lambda: after(recut, "synchronise"),
- "renamed": lambda: before(recut, "synchronise_folder"), "opened": lambda: before(Metropolis, "exchange"),
- "exchanged": lambda: after(Metropolis, "exchange")}[sys.argv.pop(1)]()
-sys.exit(main())
-"""
+    setattr(of, name, lambda *given: (whole(*given), die()))
 
 
-class Dying(Served):
-    """A server that is killed at a point of its first recut."""
+DEATHS = {
+    "exported": lambda: dying_before(recut, "_pieces"),
+    "outlines": lambda: dying_after(recut._Recut, "_write_outlines"),
+    "layer": lambda: dying_after(recut._Recut, "_written"),
+    "synchronised": lambda: dying_after(recut, "synchronise"),
+    "renamed": lambda: dying_before(recut, "synchronise_folder"),
+    "opened": lambda: dying_before(Metropolis, "exchange"),
+    "exchanged": lambda: dying_after(Metropolis, "exchange"),
+}
 
-    point = ""
 
-    def start(self):
-        words = ["serve", str(self.folder), "--journal", str(self.journal), "--port", "0"]
-        with open(self.journal.with_name("serve.log"), "a") as errors:
-            self.process = subprocess.Popen(
-                [sys.executable, "-c", DRIVER, self.point, *words],
-                stdout=subprocess.PIPE,
-                stderr=errors,
-                text=True,
-                env=environment(),
-            )
-        self.address = re.search(r"at (https?://\S+)/$", self.process.stdout.readline())[1]
+def between_the_halves():
+    """Has the process die before the second half of an edit of two districts."""
+    whole, made = Edits._submitted, []
+
+    async def second(*given):
+        made.append(given)
+        return await whole(*given) if len(made) < 2 else die()
+
+    Edits._submitted = second
+
+
+def dying(prepared, journals, line, key, before):
+    """A server that dies at an edit."""
+    served = Forked.__new__(Forked)
+    served.before = before
+    served.__init__(prepared, journals)
+    with served:
+        with pytest.raises(requests.RequestException):
+            served.edit(line, **key)
+        assert served.process.wait(SECONDS) == -signal.SIGKILL
 
 
 @pytest.fixture(scope="module")
@@ -89,13 +95,9 @@ def neighbours_across(folder):
 def test_a_recut_is_killed(prepared, tmp_path, point):
     one, other = neighbours_across(prepared)
     journals, key = tmp_path / "journals", {"Idempotency-Key": "merge"}
-    Dying.point = point
-    with Dying(prepared, journals) as served:
-        with pytest.raises(requests.RequestException):
-            served.edit(f"merge {one} {other}", **key)
-        served.process.wait(SECONDS)
+    dying(prepared, journals, f"merge {one} {other}", key, DEATHS[point])
     assert (journals / "recut_1").is_dir() == bool(POINTS[point])
-    with Served(prepared, journals) as served:
+    with Forked(prepared, journals) as served:
         assert not list(journals.glob(".recut*"))
         for parcel in (one, other):
             told = served.ask(f"/parcels/{parcel}").json()
@@ -117,31 +119,12 @@ def test_a_half_made_corner_is_taken_back_after_a_kill(prepared, tmp_path):
     )
     x, y = (ax + bx) // 2, (ay + by) // 2
     assert not ((ax + bx) % 2 or (ay + by) % 2), "the side has no middle in whole mm: take another seed"
-    driver = DRIVER.split("{")[0] + (
-        "from gandovel.metropolis.edits import Edits\n"
-        "whole, made = Edits._submitted, []\n"
-        "async def second(*given):\n"
-        "    made.append(1)\n"
-        "    return await whole(*given) if len(made) < 2 else die()\n"
-        "Edits._submitted = second\nsys.argv.pop(1)\nsys.exit(main())\n"
-    )
     journals, key = tmp_path / "journals", {"Idempotency-Key": "corner"}
     line = f"insert {ax} {ay} {bx} {by} {x} {y}"
 
-    class Halfway(Dying):
-        def start(self):
-            globals()["DRIVER"], kept = driver, DRIVER
-            try:
-                super().start()
-            finally:
-                globals()["DRIVER"] = kept
-
-    with Halfway(prepared, journals) as served:
-        with pytest.raises(requests.RequestException):
-            served.edit(line, **key)
-        served.process.wait(SECONDS)
+    dying(prepared, journals, line, key, between_the_halves)
     assert len(list((journals / "pending").glob("*.json"))) == 1
-    with Served(prepared, journals) as served:
+    with Forked(prepared, journals) as served:
         assert not list((journals / "pending").iterdir())
         low = min(one, other) // A_DISTRICT
         assert [(it["district"], it["edit"]) for it in entries_of(served)] == [
@@ -155,7 +138,7 @@ def test_a_half_made_corner_is_taken_back_after_a_kill(prepared, tmp_path):
 
 def test_servers_and_programs_are_killed(prepared, tmp_path):
     draw = random.Random(5)
-    with Served(prepared, tmp_path / "journals") as served:
+    with Forked(prepared, tmp_path / "journals") as served:
         first = parcels_of(served)
         clerks = [Clerk(served, 100 + seed, EDITS) for seed in range(CLERKS)]
         for clerk in clerks:

@@ -115,6 +115,11 @@ class District:
         return self.seat.before + known
 
     @property
+    def unasked(self) -> Optional[int]:
+        """How many parcels it has, where that is known without a session; None where it is awake, or has entries."""
+        return None if self.register is not None or self._count else self.seat.row.parcels
+
+    @property
     def state(self) -> str:
         """`asleep`, or the register's state."""
         return "asleep" if self.register is None else self.register.state

@@ -53,6 +53,10 @@ class Features:
         rest = {name: it for name, it in given.items() if name in ("bbox", "bbox-crs", "crs", "number")}
         async with self._all.reading(await self._asked(rest)) as districts:
             for district in districts:
+                if district.unasked is not None and len(features) >= limit and not rest.keys() - {"crs"}:
+                    matched += district.unasked
+                    shown[district.number] = district.entries
+                    continue
                 first = max(0, offset - matched)
                 some = {**rest, "limit": str(max(1, limit - len(features))), "offset": str(first)}
                 async with district.open() as register:

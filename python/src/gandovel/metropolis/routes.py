@@ -229,6 +229,10 @@ def _add_several(found: APIRouter, place: Place) -> None:
         first, count, matched = offset or 0, min(limit or DEFAULT_LIMIT, MOST_LIMIT), 0
         async with several.reading(numbers) as districts:
             for district in districts:
+                if district.unasked is not None and len(told) >= count and box is None and number is None:
+                    matched += district.unasked
+                    versions[district.number] = district.entries
+                    continue
                 async with district.open() as register:
                     version = await register.shown()
                     versions[district.number] = district.seat.before + version

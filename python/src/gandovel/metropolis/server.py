@@ -32,6 +32,10 @@ class MetropolisGate(Gate):
 
     metropolis: Metropolis
 
+    def is_open(self, path: str) -> bool:
+        """Whether the server is open; its page has entries, and is for readers."""
+        return path == "/health"
+
     async def _locate(self, x: int, y: int, scope: Any, receive: Receive, send: Send) -> None:
         try:
             where = await located(self.metropolis, x, y)

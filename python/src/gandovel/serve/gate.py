@@ -192,7 +192,7 @@ class Gate:
             )
         if scope["method"] not in ("GET", "HEAD") and not _is_own(headers):
             return 403, "origin", "a page of another site may not send this"
-        is_open = scope["method"] in ("GET", "HEAD") and _is_open(scope["path"])
+        is_open = scope["method"] in ("GET", "HEAD") and self.is_open(scope["path"])
         client: Optional[Client] = LOCAL
         if self._clients is not None:
             client = self._clients.client(headers.get(b"authorization", b"").decode("latin-1"))
@@ -208,6 +208,10 @@ class Gate:
             return 413, "size", f"a body has at most {MOST_BODY} bytes"
         scope.setdefault("state", {})["client"] = client
         return None
+
+    def is_open(self, path: str) -> bool:
+        """Whether anyone may ask for an address."""
+        return _is_open(path)
 
     async def _edit(self, scope: MutableMapping[str, Any], receive: Receive, send: Send) -> None:
         """An edit goes past the framework, too."""
