@@ -5,16 +5,21 @@ import json
 import os
 import shutil
 import sqlite3
+import time
+from concurrent.futures import ThreadPoolExecutor
 
 import numpy as np
 import pytest
+import requests
 
+from gandovel import Session
 from gandovel.cli import main
-from gandovel.metropolis.manifest import is_metropolis
+from gandovel.metropolis import recut
+from gandovel.metropolis.manifest import is_metropolis, sums_of
 from gandovel.program.layer_files import read_rings, write_rings
 from metropolis_city import A_DISTRICT, DISTRICTS, Clerk, Forked, entries_of, metropolis, parcels_of, sides_of
 from metropolis_city import test_against_whole as against_whole
-from served import tokens, until
+from served import SECONDS, tokens, until
 
 EDITS = int(os.environ.get("GANDOVEL_EDITS", 12))
 """Edits of each clerk that are accepted."""
@@ -147,11 +152,48 @@ def test_a_corner_of_a_border_is_put_into_both_districts_or_into_none(served, pr
 
 def make_alone(prepared, journals, district, line):
     """Makes an edit in one district by the program alone."""
-    from gandovel import Session
-
     folder = prepared / "districts" / str(district)
     with Session(folder / "city.shp", folder / "parcels.shp", journal=journals / f"district_{district}.txt") as session:
         session.ask(line)
+
+
+def slow_recut():
+    """Has a recut take two seconds more, in a server's process."""
+    whole = recut._Recut.write
+
+    def slow(self):
+        time.sleep(2)
+        whole(self)
+
+    recut._Recut.write = slow
+
+
+def test_questions_and_edits_while_districts_are_recut(prepared, tmp_path):
+    served = Forked.__new__(Forked)
+    served.before = slow_recut
+    served.__init__(prepared, tmp_path / "journals")
+    with served, ThreadPoolExecutor(4) as pool:
+        first = parcels_of(served)
+        a, b, one, other = next(crossing(first))
+        apart = next(it for it in first if it["id"] // A_DISTRICT == other // A_DISTRICT and it["id"] != other)
+        corners = apart["ring_mm"][0], apart["ring_mm"][2]
+        line = f"split {apart['id']} " + " ".join(f"{x} {y}" for x, y in corners)
+        address = {"headers": {"Content-Type": "text/plain"}, "timeout": SECONDS}
+        merge = pool.submit(requests.post, served.address + "/edits", data=f"merge {one} {other}", **address)
+        until((served.journal / ".recut_1").is_dir)
+        split = pool.submit(requests.post, served.address + "/edits", data=line, **address)
+        seen = 0
+        while not merge.done():
+            told = served.ask(f"/parcels/{other}")
+            assert told.status_code in (200, 410)
+            ids = [it["id"] for it in parcels_of(served)]
+            assert len(ids) == len(set(ids)) and 80 <= len(ids) <= 82
+            if not (served.journal / "recut_1").exists():
+                assert not split.done() and len(ids) == 81 and told.json()["entries"].endswith(":0")
+                seen += 1
+        assert seen and merge.result().status_code == 200
+        assert split.result().status_code == 200, split.result().text
+        against_whole(served, first, tmp_path / "whole", [])
 
 
 def test_versions_and_pages(served):
@@ -268,8 +310,6 @@ def test_a_tampered_outline_is_refused(prepared, tmp_path, capsys):
     write_rings(city, [outlines[3]])
     assert f"W8 district 4: {city} is not as it was written" in refusal_of(folder, tmp_path / "journals", capsys)
     manifest = json.loads((folder / "metropolis.json").read_text())
-    from gandovel.metropolis.manifest import sums_of
-
     manifest["districts"][3]["files"] = sums_of(folder / "districts/4")
     (folder / "metropolis.json").write_text(json.dumps(manifest))
     assert "W8 the outlines of island 1 do not tile its city" in refusal_of(folder, tmp_path / "journals", capsys)

@@ -33,6 +33,8 @@ class Outlines:
             test_error(lines[-1] if lines else "")
             tiling = tiling_of(lines)
         except Refused as fault:
+            if not fault.code.startswith(("F", "G", "H")):
+                raise  # it is not of the layer
             text = f"the outlines of island {self.island} do not tile its city ({fault})"
             raise Refused("W8", f"{text}: take the folder from a backup, or prepare the layer anew") from fault
         if tiling.count != len(self.rings):
