@@ -78,12 +78,12 @@ const FILES: [CodeWords; 8] = [
     },
 ];
 
-/// The codes of a coordinate, an index, or the size of a file.
+/// The codes of a coordinate, a unit, an index, or the size of a file.
 fn coordinate_codes() -> &'static [CodeWords] {
     &COORDINATES
 }
 
-const COORDINATES: [CodeWords; 5] = [
+const COORDINATES: [CodeWords; 6] = [
     CodeWords {
         code: "F9 C1",
         meaning: "a coordinate that is infinite or no number",
@@ -110,9 +110,16 @@ const COORDINATES: [CodeWords; 5] = [
     },
     CodeWords {
         code: "F11",
-        meaning: "more records or corners than a layer may have",
-        cause: "a layer of more than 65,536 polygons or 1,000,000 corners",
-        remedy: "check it by the Python package, which cuts it into districts",
+        meaning: "more records, or more corners in a ring or in all, than are read",
+        cause: "a ring of more than 4,096 corners, or a layer of more than 65,536 polygons or 1,000,000 corners",
+        remedy: "cut such a polygon into several, or check the layer by the Python package, which cuts it into \
+                 districts",
+    },
+    CodeWords {
+        code: "U1",
+        meaning: "the projections of two layers say different units",
+        cause: "layers from different sources, or a `.prj` that belongs to another layer",
+        remedy: "convert one of the layers, or give --unit where a `.prj` is wrong",
     },
 ];
 
@@ -254,10 +261,10 @@ const SYSTEM: [CodeWords; 6] = [
     },
     CodeWords {
         code: "S6",
-        meaning: "a table or a projection stands beside the layer that would be written, and would name the wrong \
+        meaning: "a file that a GIS would read with the layer stands where that would be written, and is of other \
                   parcels",
-        cause: "an export over an older layer",
-        remedy: "write under another BASE, or remove both by --force",
+        cause: "an export over an older layer, with its table, projection or index",
+        remedy: "write under another BASE, or remove such files by --force",
     },
     CodeWords {
         code: "no memory",
@@ -272,7 +279,7 @@ fn journal_codes() -> &'static [CodeWords] {
     &JOURNALS
 }
 
-const JOURNALS: [CodeWords; 5] = [
+const JOURNALS: [CodeWords; 6] = [
     CodeWords {
         code: "in use",
         meaning: "another session holds the journal",
@@ -284,6 +291,12 @@ const JOURNALS: [CodeWords; 5] = [
         meaning: "the file is not empty, and its first line is no journal's",
         cause: "another file given as journal",
         remedy: "name another file: this one is not touched",
+    },
+    CodeWords {
+        code: "not empty",
+        meaning: "a journal is to begin with a clerk's file, and has been begun",
+        cause: "a start with --clerk and the journal of an earlier session",
+        remedy: "leave out --clerk, or name a new journal",
     },
     CodeWords {
         code: "another layer",

@@ -4,3 +4,4 @@ pub mod OwnLayers
 pub mod boundaries
 pub mod Located
 pub mod Overlapped
+pub mod Versions

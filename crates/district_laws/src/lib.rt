@@ -2,10 +2,14 @@
 //! by its district, and the overlay's pairs are those of the districts.
 #![tactic(auto)]
 
+mod live;
 mod overlaps;
 mod places;
 mod tilings;
 
+pub use live::{
+    any_versions_of_districts_tile_their_city, parcels_tile_their_city_however_they_are_filed,
+};
 pub use overlaps::{cutting_zones_changes_no_pair, pairs_of_districts_are_the_pairs_of_their_city};
 pub use places::{
     a_point_inside_a_district_is_located_by_it,

@@ -70,17 +70,18 @@ fn each_call_fails_in_turn(rt: HostRuntime) -> Result<(), Fail> {
 
 /// Writes what is whole of a text to an empty file, and answers how many records were written there.
 fn write_anew(alloc: Global, disk: &mut FakeDisk, text: &[u8]) -> Result<Written, Fail> {
-    let Ok(read) = read_journal(alloc, &layer(), text) else {
+    let layer = layer();
+    let Ok(read) = read_journal(alloc, &layer, text) else {
         return Err(Fail::new("not read"));
     };
     let (count, seal) = (read.records.len() as u64, read.seal);
-    let whole = text.get(..text.len() - read.torn.len()).unwrap_or(&[]);
+    let whole = text.len().saturating_sub(read.torn.len());
     let begun: Result<JournalWriter<FakeFile, Global>, FileFailed> = JournalWriter::go_on(
         FakeFile { disk },
-        &layer(),
+        &layer,
         count,
         seal,
-        whole,
+        &text[..whole],
         read.lacks_end,
     );
     match begun {

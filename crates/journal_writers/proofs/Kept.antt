@@ -1,9 +1,11 @@
 -- A journal and one more record.
 use Rattle.std.proofs.Common.{◌≡◌, ◌⊎◌, inl, inr, refl, sym, ap, ◌∙◌, subst, ℕ, ◌+◌, List, [], ◌∷◌, ◌++◌, length, arith}
-use Rattle.std.proofs.Common.{append-nil, append_assoc, Option, None, Some, IfSome, Bool, true, false}
+use Rattle.std.proofs.Common.{append-nil, append_assoc, Option, None, Some, IfSome, Bool, true, false, ◌-◌, codes, take}
 use Rattle.std.proofs.lemmas.Bool.{false≢true}
-use Rattle.std.proofs.lemmas.List.{length-append}
-use Rattle.journal_records.specs.Journals.{header_line, records_text, record_text, record_seal, IsReadWhole, IsRecord}
+use Rattle.std.proofs.lemmas.List.{length-append, take_all}
+use Rattle.std.proofs.Math.Seq.{take-append_seam}
+use Rattle.journal_records.specs.declared.record.Record.{Record}
+use Rattle.journal_records.specs.Journals.{header_line, records_text, record_text, record_seal, ended, IsJournal, IsReadWhole, IsRecord}
 use Rattle.journal_records.specs.Tails.{IsTwoLines}
 use Rattle.journal_records.proofs.Records.{whole_more}
 use Rattle.journal_writers.specs.Files.{with_more}
@@ -33,6 +35,39 @@ pub went_on : (A : Type 0) (layer text : List ℕ) (bytes : Option (List ℕ)) (
 went_on A layer text None records seal empty kept = tt
 went_on A layer text (Some bytes) records seal empty kept =
     subst (λ b. IsKept A layer (b ++ text) records seal) (sym empty) kept
+
+-- what is whole of a journal's text
+pub kept_of : {A : Type 0} (layer text : List ℕ) (records : List (Record A)) (seal rest : List ℕ) (lacks : Bool) (count whole torn : ℕ)
+    → IsJournal layer text records seal rest lacks → count ≡ length records → torn ≡ length rest → whole ≡ length text - torn
+    → IsKept A layer (ended lacks (take whole text)) count seal
+kept_of layer text records seal rest true count whole torn journal so_many is_torn is =
+    let none : rest ≡ [] = journal.is_ended refl in
+    let all : take whole text ≡ text = take_all whole text (omega (arith, is, is_torn, ap length none)) in
+    record {
+      written = records;
+      are_lines = subst (λ t. IsReadWhole layer (ended true t) records seal []) (sym all)
+          (subst (λ r. IsReadWhole layer (text ++ codes "\n") records seal r) none journal.is_read);
+      count = sym so_many;
+    }
+kept_of layer text records seal rest false count whole torn journal so_many is_torn is =
+    let front = header_line layer ++ records_text layer records in
+    let read = journal.is_read.is_read in
+    let sum : length text ≡ length front + length rest = ap length read.is_text ∙ length-append front rest in
+    let place : whole ≡ length front = omega (arith, is, is_torn, sum) in
+    let cut : take whole text ≡ front =
+    ap (λ n. take n text) place ∙ ap (λ b. take (length front) b) read.is_text ∙ take-append_seam front rest in
+    record {
+      written = records;
+      are_lines = record {
+        is_read = record {
+          is_text = cut ∙ sym (append-nil front);
+          is_seal = read.is_seal;
+          are_numbered = read.are_numbered;
+        };
+        in_lines = journal.is_read.in_lines;
+      };
+      count = sym so_many;
+    }
 
 -- where a write has not failed
 pub unless_broken : {P : Type 0} (broken : Bool) → broken ≡ false → (broken ≡ true) ⊎ P → P

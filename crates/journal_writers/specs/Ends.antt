@@ -1,5 +1,5 @@
 -- What the disk has of a journal (this product's own).
-use Rattle.std.specs.Prelude.{◌≡◌, ◌≤◌, nat_le, ℕ, Bool, true, Result, Ok, Err, if◌then◌else◌}
+use Rattle.std.specs.Prelude.{◌≡◌, nat_le, ℕ, Bool, true, Result, Ok, Err, if◌then◌else◌}
 use Rattle.journal_writers.specs.declared.file_id.FileId.{FileId}
 use Rattle.journal_writers.specs.declared.file.FileFailed.{FileFailed}
 

@@ -1,17 +1,18 @@
 //! How a run ends: what is told on standard error, and the status.
 
 use crate::ended::Ended;
-use crate::hints::{hint_of, hint_with};
+use crate::hints::{hint_of, hint_of_fault, hint_of_start};
 use crate::sizes::size_of;
 use crate::unitless::other_unit;
 use city_layers::{Disk, ToolFault, read_source};
 use clap::Error;
 use clap::error::ErrorKind;
-use std::fmt::Display;
+use register_sessions::StartFault;
+use std::alloc::Allocator;
 use std::io;
 use std::process::ExitCode;
 use std::rt::Files;
-use tool_arguments::Request;
+use tool_arguments::{Request, Session};
 
 /// The status of a run that a fault ended.
 pub(crate) const FAULT: u8 = 1;
@@ -30,22 +31,37 @@ pub(crate) fn end_run<R: Eprint + Files + AllocGlobal>(
     let _ = eprintln!(rt; "error: {ended}");
     if hints {
         tell_hint(rt, hint_of(rt, rt.alloc(), request, ended));
-        tell_hint(rt, other_unit(rt, rt.alloc(), request));
+        // Where the projections differ no unit was given.
+        if !matches!(ended, Ended::Units(_, _)) {
+            tell_hint(rt, other_unit(rt, rt.alloc(), request));
+        }
     }
     ExitCode::from(FAULT)
 }
 
 /// Ends a run early, and says why; in words, too, where hints are wanted.
-pub(crate) fn end_by_fault<R: Eprint + AllocGlobal, F: Display>(
+pub(crate) fn end_by_fault<R: Eprint + AllocGlobal>(
     rt: &R,
-    fault: &F,
+    fault: &ToolFault<'_>,
     hints: bool,
 ) -> ExitCode {
     let _ = eprintln!(rt; "error: {fault}");
     if hints {
-        if let Ok(text) = format!(in rt.alloc(); "{fault}") {
-            tell_hint(rt, hint_with(rt.alloc(), text.as_str(), None));
-        }
+        tell_hint(rt, hint_of_fault(rt.alloc(), fault));
+    }
+    ExitCode::from(FAULT)
+}
+
+/// Ends a session that did not start, and says why; in words, too, where hints are wanted.
+pub(crate) fn end_by_start<R: Eprint + Files + AllocGlobal, A: Allocator>(
+    rt: &R,
+    session: &Session<'_>,
+    fault: &StartFault<'_, A>,
+    hints: bool,
+) -> ExitCode {
+    let _ = eprintln!(rt; "error: {fault}");
+    if hints {
+        tell_hint(rt, hint_of_start(rt, rt.alloc(), session, fault));
     }
     ExitCode::from(FAULT)
 }

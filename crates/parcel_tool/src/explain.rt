@@ -27,7 +27,8 @@ impl From<Failed> for ExplainFault {
 }
 
 /// Prints what a code means, what usually causes it, and what to do; of several that begin with these words, as `F9`,
-/// each; without words a line for every code.
+/// each; of the text of a refusal, as `parcels: H2 60 0 60 100 net 1`, that of its code; without words a line for every
+/// code.
 pub(crate) fn explain<W: ByteOut>(
     alloc: Global,
     words: &[&str],
@@ -37,11 +38,11 @@ pub(crate) fn explain<W: ByteOut>(
         return list_all(alloc, out);
     }
     let asked = joined(alloc, words)?;
+    if let Some(found) = words_of_code(asked.as_str()) {
+        return explain_one(alloc, &found, out);
+    }
     let mut some = false;
     for place in 0..GROUPS {
-        if let Some(found) = words_of(group(place), asked.as_str()) {
-            return explain_one(alloc, &found, out);
-        }
         for code in group(place) {
             if is_of(code.code, asked.as_str()) {
                 explain_one(alloc, code, out)?;
@@ -50,10 +51,36 @@ pub(crate) fn explain<W: ByteOut>(
         }
     }
     if some {
-        Ok(())
-    } else {
-        Err(ExplainFault::Unknown)
+        return Ok(());
     }
+    match words_of_refusal(asked.as_str()) {
+        Some(found) => explain_one(alloc, &found, out),
+        None => Err(ExplainFault::Unknown),
+    }
+}
+
+/// The words of the code in a refusal as it was printed, whole or from its code on. Where several parts of it begin as
+/// codes do, the last counts: a path before it may be named as a code.
+fn words_of_refusal(text: &str) -> Option<CodeWords> {
+    let mut found = None;
+    for part in text.split(": ") {
+        for place in 0..GROUPS {
+            if let Some(words) = begun_by(group(place), part) {
+                found = Some(words);
+            }
+        }
+    }
+    found
+}
+
+/// The words of a code.
+pub(crate) fn words_of_code(code: &str) -> Option<CodeWords> {
+    for place in 0..GROUPS {
+        if let Some(words) = words_of(group(place), code) {
+            return Some(words);
+        }
+    }
+    None
 }
 
 /// The words with a space between two of them.
@@ -104,7 +131,8 @@ fn list_all<W: ByteOut>(alloc: Global, out: &mut W) -> Result<(), ExplainFault> 
     Ok(())
 }
 
-/// The words of the code that the text of a refusal has: it begins the text, or what stands behind a colon and a space.
+/// The words of the code that the text of a run's fault has: it begins the text, or what stands behind a colon and a
+/// space. The first counts: a path stands behind its code.
 pub(crate) fn words_in(text: &str) -> Option<CodeWords> {
     for part in text.split(": ") {
         for place in 0..GROUPS {

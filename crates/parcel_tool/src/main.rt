@@ -12,6 +12,7 @@ mod extents;
 mod file_hints;
 mod flaws;
 mod hints;
+mod known;
 mod named;
 mod outputs;
 mod progress;
@@ -22,8 +23,8 @@ mod units;
 
 use crate::ended::Ended;
 use crate::ends::{
-    FAULT, REFUSED, end_by_fault, end_by_folder, end_by_refusal, end_run, end_unread, tell_hint,
-    tell_layers,
+    FAULT, REFUSED, end_by_fault, end_by_folder, end_by_refusal, end_by_start, end_run, end_unread,
+    tell_hint, tell_layers,
 };
 use crate::explain::{ExplainFault, explain};
 use crate::hints::hint_of;
@@ -32,7 +33,7 @@ use crate::outputs::{is_folder, write_layer};
 use crate::progress::tell;
 use crate::session_disk::SessionDisk;
 use crate::unitless::{why_no_unit, with_unit};
-use crate::units::{Stated, stated_beside};
+use crate::units::{Said, first_clear, first_other, length_of, said_beside};
 use area_runs::overlay_areas;
 use city_layers::area::area;
 use city_layers::{Disk, StandardInput, ToolFault, read_source, read_text};
@@ -109,21 +110,39 @@ fn answer_unitless<
     let Ok(request) = tool_arguments::parse(heap, metres.as_slice()) else {
         return end_by_refusal(rt, error);
     };
-    let Ok(stated) = stated_beside(rt, heap, &request) else {
+    let Ok(said) = said_beside(rt, heap, &request) else {
         return end_by_fault(rt, &ToolFault::NoMemory, told.hints);
     };
-    if let Some((Stated::Length(unit), stem)) = stated {
+    if let Some((first, other)) = find_differing(said.as_slice()) {
+        let ended = Ended::Units(first, other);
+        return end_run(rt, &request, &ended, told.hints);
+    }
+    if let Some((unit, first)) = find_unit(said.as_slice()) {
         if told.hints {
-            let word = word_of(unit);
-            let _ = eprintln!(rt; "hint: --unit {word} is taken from {stem}.prj");
+            let (word, stem, ending) = (word_of(unit), first.stem, first.ending);
+            let _ = eprintln!(rt; "hint: --unit {word} is taken from {stem}{ending}");
         }
         return answer_in(rt, disk, words, unit, told);
     }
     let status = end_by_refusal(rt, error);
     if told.hints {
-        tell_hint(rt, why_no_unit(heap, stated));
+        tell_hint(rt, why_no_unit(heap, said.as_slice()));
     }
     status
+}
+
+/// Two layers whose projections say different units, where there are such.
+fn find_differing<'a>(said: &[Said<'a>]) -> Option<(Said<'a>, Said<'a>)> {
+    let first = first_clear(said)?;
+    let other = first_other(said, first.stated)?;
+    Some((first, other))
+}
+
+/// The unit that the first projection says that says one clearly, where layers may have it.
+fn find_unit<'a>(said: &[Said<'a>]) -> Option<(Unit, Said<'a>)> {
+    let first = first_clear(said)?;
+    let unit = length_of(first.stated)?;
+    Some((unit, first))
 }
 
 /// Answers a command line whose unit is this.
@@ -328,7 +347,7 @@ fn answer_session<
     match serve_session(rt, disk, &heap, &plan) {
         Ok(()) => ExitCode::SUCCESS,
         Err(StartFault::Run(fault)) => end_run(rt, request, &Ended::Fault(fault), hints),
-        Err(fault) => end_by_fault(rt, &fault, hints),
+        Err(fault) => end_by_start(rt, session, &fault, hints),
     }
 }
 

@@ -97,6 +97,22 @@ pub(crate) fn points_of<'a>(request: &Request<'a>) -> Option<&'a str> {
     }
 }
 
+/// Whether `-` of a request is standard input alone: its points are, and no file of it has that name.
+pub(crate) fn is_of_standard_input(request: &Request<'_>) -> bool {
+    match request {
+        Request::Locate {
+            inputs,
+            points: Points::File(path),
+        } => {
+            *path == "-"
+                && inputs.city != "-"
+                && inputs.parcels != "-"
+                && !inputs.clerks.as_slice().contains(&"-")
+        }
+        _ => false,
+    }
+}
+
 /// The word of `--unit` for a unit.
 pub(crate) fn word_of(unit: Unit) -> &'static str {
     match unit {

@@ -1,14 +1,37 @@
 //! Where layers are written: what stands in their way, and why they are not written.
 
-use crate::ended::Ended;
+use crate::ended::{Ended, Sizes};
+use crate::known::Known;
 use city_layers::{ToolFault, replace_layer};
 use std::alloc::{AllocError, Allocator, Global};
-use std::fs::File;
-use std::io::ErrorKind;
+use std::fs::{File, OpenFile};
+use std::io;
+use std::io::{ErrorKind, Write};
+use std::os::unix::fs::MetadataExt;
 use std::rt::Files;
 
-/// The endings of the files that say whose the shapes of a layer are, and where they lie.
-const BESIDE: [&str; 2] = [".dbf", ".prj"];
+/// The endings of the files that a GIS reads with the main file beside them: tables, projections, what characters mean,
+/// and indexes of places and of the table. Of a layer that stood there before they are wrong: by an old index of places
+/// parcels vanish. First those that tell most.
+const BESIDE: [&str; 17] = [
+    ".dbf", ".prj", ".qix", ".sbn", ".sbx", ".cpg", ".qpj", ".cst", ".idm", ".ind", ".dbt", ".fbn",
+    ".fbx", ".ain", ".aih", ".ixs", ".mxs",
+];
+
+/// The same endings in capitals, which are read as well.
+const BESIDE_IN_CAPITALS: [&str; 17] = [
+    ".DBF", ".PRJ", ".QIX", ".SBN", ".SBX", ".CPG", ".QPJ", ".CST", ".IDM", ".IND", ".DBT", ".FBN",
+    ".FBX", ".AIN", ".AIH", ".IXS", ".MXS",
+];
+
+/// The bit of a folder's mode by which nobody may replace a file of another there.
+const STICKY: u32 = 0o1000;
+
+/// How many bytes are written at a time to see whether there is room.
+const BLOCK: usize = 256;
+
+/// These bytes.
+const ZEROS: [u8; 256] = [0; 256];
 
 /// Whether a folder stands at a path.
 pub(crate) fn is_folder<R: Files>(rt: &R, path: &str) -> bool {
@@ -18,8 +41,16 @@ pub(crate) fn is_folder<R: Files>(rt: &R, path: &str) -> bool {
     }
 }
 
-/// Replaces the layer BASE.shp and BASE.shx, or makes it. Where a table or a projection stands beside, nothing is
-/// written, or, where that is asked for, both are removed once the new files are there.
+/// Whether a regular file stands at a path.
+pub(crate) fn is_regular<R: Files>(rt: &R, path: &str) -> bool {
+    match rt.metadata(path) {
+        Ok(metadata) => metadata.is_file(),
+        Err(_) => false,
+    }
+}
+
+/// Replaces the layer BASE.shp and BASE.shx, or makes it. Where a file stands beside that a GIS would read with it,
+/// nothing is written, or, where that is asked for, all of them are removed once the new files are there.
 pub(crate) fn write_layer<'p, R: Files>(
     rt: &R,
     alloc: Global,
@@ -35,7 +66,13 @@ pub(crate) fn write_layer<'p, R: Files>(
     let (main, index) = bytes;
     match replace_layer(rt, alloc, base, main, index) {
         Ok(()) => {}
-        Err(ToolFault::Output) => return Err(Ended::Unwritten(base)),
+        Err(ToolFault::Output) => {
+            let sizes = Sizes {
+                main: main.len(),
+                index: index.len(),
+            };
+            return Err(Ended::Unwritten(base, sizes));
+        }
         Err(_) => return Err(Ended::Fault(ToolFault::NoMemory)),
     }
     if force {
@@ -44,13 +81,27 @@ pub(crate) fn write_layer<'p, R: Files>(
     Ok(())
 }
 
-/// How the path of a table or a projection ends that stands beside BASE.shp, if one does.
+/// How the path of the first file ends that stands beside BASE.shp and would be read with it, if one does.
 pub(crate) fn find_beside<R: Files, A: Allocator + Copy>(
     rt: &R,
     alloc: A,
     base: &str,
 ) -> Result<Option<&'static str>, AllocError> {
-    for ending in BESIDE {
+    if let Some(ending) = find_one_of(rt, alloc, base, &BESIDE)? {
+        return Ok(Some(ending));
+    }
+    find_one_of(rt, alloc, base, &BESIDE_IN_CAPITALS)
+}
+
+/// The first of these endings with which a file stands there.
+fn find_one_of<R: Files, A: Allocator + Copy>(
+    rt: &R,
+    alloc: A,
+    base: &str,
+    endings: &[&'static str],
+) -> Result<Option<&'static str>, AllocError> {
+    for ending in endings {
+        let ending = *ending;
         let path = format!(in alloc; "{base}{ending}")?;
         if rt.symlink_metadata(path.as_str()).is_ok() {
             return Ok(Some(ending));
@@ -59,9 +110,21 @@ pub(crate) fn find_beside<R: Files, A: Allocator + Copy>(
     Ok(None)
 }
 
-/// Removes the table and the projection that stand beside BASE.shp.
+/// Removes what stands beside BASE.shp and would be read with it.
 fn remove_beside<'p, R: Files>(rt: &R, alloc: Global, base: &'p str) -> Result<(), Ended<'p>> {
-    for ending in BESIDE {
+    remove_each(rt, alloc, base, &BESIDE)?;
+    remove_each(rt, alloc, base, &BESIDE_IN_CAPITALS)
+}
+
+/// Removes the files with these endings.
+fn remove_each<'p, R: Files>(
+    rt: &R,
+    alloc: Global,
+    base: &'p str,
+    endings: &[&'static str],
+) -> Result<(), Ended<'p>> {
+    for ending in endings {
+        let ending = *ending;
         let path = format!(in alloc; "{base}{ending}")?;
         match rt.remove_file(path.as_str()) {
             Ok(()) => {}
@@ -77,26 +140,32 @@ pub(crate) fn why_unwritten<R: Files>(
     rt: &R,
     alloc: Global,
     base: &str,
-) -> Result<String, AllocError> {
+    sizes: Sizes,
+) -> Result<Known, AllocError> {
     for ending in [".shp", ".shx"] {
         let path = format!(in alloc; "{base}{ending}")?;
         if is_folder(rt, path.as_str()) {
-            return format!(in alloc; "{path} is a folder");
+            let known = format!(in alloc; "{path} is a folder")?;
+            return Ok(Known::Cause(known));
         }
     }
     let folder = folder_of(base);
-    match rt.metadata(folder) {
-        Ok(metadata) if metadata.is_dir() => why_not_made(rt, alloc, base),
-        Ok(_) => format!(in alloc; "{folder} is no folder"),
-        Err(error) if error.kind() == ErrorKind::NotFound => {
-            format!(in alloc; "there is no folder {folder}")
+    let known = match rt.metadata(folder) {
+        Ok(metadata) if metadata.is_dir() => {
+            let sticky = metadata.mode() & STICKY != 0;
+            return why_not_made(rt, alloc, base, sizes, sticky);
         }
-        Err(_) => format!(in alloc; "the system does not give the folder {folder}"),
-    }
+        Ok(_) => format!(in alloc; "{folder} is no folder")?,
+        Err(error) if error.kind() == ErrorKind::NotFound => {
+            format!(in alloc; "there is no folder {folder}")?
+        }
+        Err(_) => format!(in alloc; "the system does not give the folder {folder}")?,
+    };
+    Ok(Known::Cause(known))
 }
 
 /// The folder in which a path lies.
-fn folder_of(path: &str) -> &str {
+pub(crate) fn folder_of(path: &str) -> &str {
     match path.rsplit_once('/') {
         Some(("", _)) => "/",
         Some((folder, _)) => folder,
@@ -104,20 +173,86 @@ fn folder_of(path: &str) -> &str {
     }
 }
 
-/// Why a file beside BASE.shp can't be made or filled: one more is made, and removed again.
-fn why_not_made<R: Files>(rt: &R, alloc: Global, base: &str) -> Result<String, AllocError> {
-    let path = format!(in alloc; "{base}.shp.hint.new")?;
-    let why = match File::create_new(rt, path.as_str()) {
-        Ok(_) => {
-            let _ = rt.remove_file(path.as_str());
-            "the disk is full, or a file may not be so long"
+/// Why files beside BASE.shp can't be made, filled or put in the place of others: two more are made, as long as those
+/// that were not written, and removed again.
+fn why_not_made<R: Files>(
+    rt: &R,
+    alloc: Global,
+    base: &str,
+    sizes: Sizes,
+    sticky: bool,
+) -> Result<Known, AllocError> {
+    let main = format!(in alloc; "{base}.shp.hint.new")?;
+    let index = format!(in alloc; "{base}.shx.hint.new")?;
+    let mut tried = try_file(rt, main.as_str(), sizes.main);
+    if tried.is_ok() {
+        tried = try_file(rt, index.as_str(), sizes.index);
+        let _ = rt.remove_file(index.as_str());
+    }
+    let owner = owner_of(rt, main.as_str());
+    let _ = rt.remove_file(main.as_str());
+    if let Err(kind) = tried {
+        return match words_of_kind(kind) {
+            Some(why) => {
+                let known = format!(in alloc; "{base}.shp and {base}.shx: {why}")?;
+                Ok(Known::Cause(known))
+            }
+            None => Ok(Known::NotUsual),
+        };
+    }
+    for ending in [".shp", ".shx"] {
+        let path = format!(in alloc; "{base}{ending}")?;
+        let other = owner_of(rt, path.as_str());
+        if sticky && other.is_some() && other != owner {
+            let known = format!(in alloc;
+                "{path} is another user's, and in its folder nobody replaces a file of another"
+            )?;
+            return Ok(Known::Mend(known, "write under another BASE"));
         }
-        Err(error) => match error.kind() {
-            ErrorKind::PermissionDenied => "there is no right to write there",
-            ErrorKind::ReadOnlyFilesystem => "the disk can only be read",
-            ErrorKind::StorageFull => "the disk is full",
-            _ => "the system makes no file there",
+    }
+    Ok(Known::NotUsual)
+}
+
+/// Whose the file at a path is, where one stands there.
+fn owner_of<R: Files>(rt: &R, path: &str) -> Option<u32> {
+    match rt.symlink_metadata(path) {
+        Ok(metadata) => Some(metadata.uid()),
+        Err(_) => None,
+    }
+}
+
+/// Makes a file of so many zeros at a path where none stands.
+fn try_file<R: Files>(rt: &R, path: &str, size: usize) -> Result<(), ErrorKind> {
+    match File::create_new(rt, path) {
+        Ok(file) => match fill(file, size) {
+            Ok(()) => Ok(()),
+            Err(error) => Err(error.kind()),
         },
-    };
-    format!(in alloc; "{base}.shp and {base}.shx: {why}")
+        Err(error) => Err(error.kind()),
+    }
+}
+
+/// Writes so many zeros to a new file, and closes it once the device has them.
+fn fill<W: Write + OpenFile + Drop>(file: W, size: usize) -> io::Result<()> {
+    let mut file = file;
+    for _ in 0..size / BLOCK {
+        file.write_all(&ZEROS)?;
+    }
+    if let Some(rest) = ZEROS.get(..size % BLOCK) {
+        file.write_all(rest)?;
+    }
+    file.flush()?;
+    file.sync_all()
+}
+
+/// What the system says by an error of this kind.
+fn words_of_kind(kind: ErrorKind) -> Option<&'static str> {
+    match kind {
+        ErrorKind::PermissionDenied => Some("there is no right to write there"),
+        ErrorKind::ReadOnlyFilesystem => Some("the disk can only be read"),
+        ErrorKind::StorageFull => Some("the disk is full"),
+        ErrorKind::QuotaExceeded => Some("no more of the disk may be used"),
+        ErrorKind::FileTooLarge => Some("a file may not be so long"),
+        _ => None,
+    }
 }

@@ -1,7 +1,8 @@
 //! Command lines without `--unit`, and units that a projection gainsays.
 
 use crate::named::{unit_of, word_of};
-use crate::units::{Stated, stated_beside};
+use crate::units::{Said, first_clear, first_other, said_beside, word_of_stated};
+use projection_units::Stated;
 use std::alloc::{AllocError, Global};
 use std::rt::Files;
 use tool_arguments::Request;
@@ -31,43 +32,59 @@ pub(crate) fn with_unit<'w>(
     Ok(all)
 }
 
-/// Why no unit is known of the layers of a request that gave none.
-pub(crate) fn why_no_unit(alloc: Global, stated: Option<(Stated, &str)>) -> Option<String> {
-    let text = match stated {
-        Some((Stated::Degrees, stem)) => {
-            format!(in alloc; "{stem}.prj says degrees; project the layer first")
+/// Why no unit is known of the layers of a request that gave none, by what the projections beside them say.
+pub(crate) fn why_no_unit(alloc: Global, all: &[Said<'_>]) -> Option<String> {
+    let Some(said) = first_clear(all).or(all.first().copied()) else {
+        return format!(in alloc;
+            "no .prj beside the layers says their unit; give --unit mm, cm or m"
+        ).ok();
+    };
+    let (stem, ending) = (said.stem, said.ending);
+    let text = match said.stated {
+        Stated::Degrees => {
+            format!(in alloc; "{stem}{ending} says degrees; project the layer first")
         }
-        Some((_, stem)) => {
+        Stated::Unclear => format!(in alloc;
+            "{stem}{ending} says no unit that is understood; give --unit mm, cm or m"
+        ),
+        Stated::Other | Stated::Length(_) => {
             format!(in alloc;
-                "the unit in {stem}.prj is none of mm, cm and m; convert the layer first"
+                "the unit in {stem}{ending} is none of mm, cm and m; convert the layer first"
             )
         }
-        None => format!(in alloc;
-            "no .prj beside the layers says their unit; give --unit mm, cm or m"
-        ),
     };
     text.ok()
 }
 
-/// How the projection beside a layer of a request gainsays the unit; `None` where none does, or memory is refused.
+/// How the first projection beside a layer of a request that gainsays the unit does so; `None` where none does, or
+/// memory is refused.
 pub(crate) fn other_unit<R: Files>(rt: &R, alloc: Global, request: &Request<'_>) -> Option<String> {
     let given = unit_of(request)?;
     let word = word_of(given);
-    let (stated, stem) = stated_beside(rt, alloc, request).ok()??;
-    let text = match stated {
-        Stated::Length(unit) if unit == given => return None,
-        Stated::Length(unit) => {
-            let said = word_of(unit);
-            format!(in alloc; "{stem}.prj says {said}, and --unit {word} was given")
-        }
-        Stated::Degrees => format!(in alloc;
-            "{stem}.prj says degrees, and --unit {word} was given"
-        ),
+    let all = said_beside(rt, alloc, request).ok()?;
+    let said = first_other(all.as_slice(), Stated::Length(given))?;
+    let (stem, ending) = (said.stem, said.ending);
+    let text = match said.stated {
         Stated::Other => {
             format!(in alloc;
-                "the unit in {stem}.prj is none of mm, cm and m, and --unit {word} was given"
+                "the unit in {stem}{ending} is none of mm, cm and m, and --unit {word} was given"
             )
+        }
+        stated => {
+            let said = word_of_stated(stated);
+            format!(in alloc; "{stem}{ending} says {said}, and --unit {word} was given")
         }
     };
     text.ok()
+}
+
+/// The paths of two projections, in words of a hint.
+pub(crate) fn words_of_differing(
+    alloc: Global,
+    first: &Said<'_>,
+    other: &Said<'_>,
+) -> Result<String, AllocError> {
+    let (stem, ending) = (first.stem, first.ending);
+    let (other_stem, other_ending) = (other.stem, other.ending);
+    format!(in alloc; "as {stem}{ending} and {other_stem}{other_ending} say")
 }

@@ -1,39 +1,44 @@
-//! The unit of a layer, as the projection file beside it says.
+//! What the projections beside a request's layers say of the unit.
 
-use crate::named::path_of;
+use crate::named::{path_of, word_of};
 use city_layers::{Disk, Role, read_text};
 use geo_exact::Unit;
+use projection_units::{Stated, unit_of_projection};
 use std::alloc::{AllocError, Global};
 use std::rt::Files;
 use tool_arguments::Request;
 
-/// What a projection says of the unit of coordinates.
-#[derive(Clone, Copy, Debug, PartialEq, Eq)]
-pub(crate) enum Stated {
-    /// Millimetres, centimetres or metres.
-    Length(Unit),
-    /// Degrees.
-    Degrees,
-    /// A unit that is none of these, as feet.
-    Other,
+/// The endings of a projection's file. The first that stands there is the layer's.
+const ENDINGS: [&str; 2] = [".prj", ".PRJ"];
+
+/// What the projection beside a layer says.
+#[derive(Clone, Copy)]
+pub(crate) struct Said<'a> {
+    /// What the layer is to the run.
+    pub(crate) role: Role,
+    /// The path of its main file, without its ending.
+    pub(crate) stem: &'a str,
+    /// How the path of the projection ends.
+    pub(crate) ending: &'static str,
+    /// What that says.
+    pub(crate) stated: Stated,
 }
 
-/// What the first projection beside a request's layers says, and the path of that layer without its ending; `None`
-/// where no layer has one.
-pub(crate) fn stated_beside<'a, R: Files>(
+/// What the projections beside a request's layers say, of each layer that has one.
+pub(crate) fn said_beside<'a, R: Files>(
     rt: &R,
     alloc: Global,
     request: &Request<'a>,
-) -> Result<Option<(Stated, &'a str)>, AllocError> {
+) -> Result<Vec<Said<'a>>, AllocError> {
+    let mut all = Vec::new(alloc);
     for role in [Role::File, Role::City, Role::Parcels, Role::Zones] {
         if let Some(stem) = stem_of(request, role) {
-            let path = format!(in alloc; "{stem}.prj")?;
-            if let Some(stated) = stated_at(rt, alloc, path.as_str()) {
-                return Ok(Some((stated, stem)));
+            if let Some(said) = said_of(rt, alloc, role, stem)? {
+                all.push(said)?;
             }
         }
     }
-    Ok(None)
+    Ok(all)
 }
 
 /// The path of the layer of a role without its ending.
@@ -42,51 +47,74 @@ fn stem_of<'a>(request: &Request<'a>, role: Role) -> Option<&'a str> {
     path.strip_suffix(".shp").or(path.strip_suffix(".SHP"))
 }
 
-/// What the projection at a path says.
-fn stated_at<R: Files>(rt: &R, alloc: Global, path: &str) -> Option<Stated> {
-    let Ok(text) = read_text(&Disk(rt), alloc, path) else {
-        return None;
-    };
-    match str::from_utf8(text.as_slice()) {
-        Ok(text) => stated_in(text),
-        Err(_) => None,
+/// What the projection beside the layer of a role says, where there is one.
+fn said_of<'a, R: Files>(
+    rt: &R,
+    alloc: Global,
+    role: Role,
+    stem: &'a str,
+) -> Result<Option<Said<'a>>, AllocError> {
+    for ending in ENDINGS {
+        let path = format!(in alloc; "{stem}{ending}")?;
+        if rt.symlink_metadata(path.as_str()).is_ok() {
+            let stated = stated_at(rt, alloc, path.as_str())?;
+            return Ok(Some(Said {
+                role,
+                stem,
+                ending,
+                stated,
+            }));
+        }
+    }
+    Ok(None)
+}
+
+/// What the projection at a path says. What is no regular file is not read: a pipe would keep the run waiting.
+fn stated_at<R: Files>(rt: &R, alloc: Global, path: &str) -> Result<Stated, AllocError> {
+    match rt.metadata(path) {
+        Ok(metadata) if metadata.is_file() => {}
+        _ => return Ok(Stated::Unclear),
+    }
+    match read_text(&Disk(rt), alloc, path) {
+        Ok(text) => unit_of_projection(alloc, text.as_slice()),
+        Err(_) => Ok(Stated::Unclear),
     }
 }
 
-/// What a projection's text says: the last unit of the plane, before one of heights.
-fn stated_in(text: &str) -> Option<Stated> {
-    let plane = match text.split_once("VERT") {
-        Some((plane, _)) => plane,
-        None => text,
-    };
-    if !plane.contains("PROJC") {
-        return if plane.contains("GEOG") || plane.contains("GEODC") {
-            Some(Stated::Degrees)
-        } else {
-            None
-        };
+/// The first that says a unit clearly.
+pub(crate) fn first_clear<'a>(all: &[Said<'a>]) -> Option<Said<'a>> {
+    for said in all {
+        if said.stated != Stated::Unclear {
+            return Some(*said);
+        }
     }
-    let (_, unit) = plane.rsplit_once("UNIT[")?;
-    let (_, behind) = unit.split_once(',')?;
-    let (inside, _) = behind.split_once(']')?;
-    let factor = match inside.split_once(',') {
-        Some((factor, _)) => factor,
-        None => inside,
-    };
-    Some(stated_by(factor.trim()))
+    None
 }
 
-/// The unit of so many metres.
-fn stated_by(metres: &str) -> Stated {
-    let short = if metres.contains('.') {
-        metres.trim_end_matches('0')
-    } else {
-        metres
-    };
-    match short {
-        "1" | "1." => Stated::Length(Unit::M),
-        "0.01" => Stated::Length(Unit::Cm),
-        "0.001" => Stated::Length(Unit::Mm),
-        _ => Stated::Other,
+/// The first that clearly says another unit than this.
+pub(crate) fn first_other<'a>(all: &[Said<'a>], than: Stated) -> Option<Said<'a>> {
+    for said in all {
+        if said.stated != Stated::Unclear && said.stated != than {
+            return Some(*said);
+        }
+    }
+    None
+}
+
+/// What a projection says, in a word.
+pub(crate) fn word_of_stated(stated: Stated) -> &'static str {
+    match stated {
+        Stated::Length(unit) => word_of(unit),
+        Stated::Degrees => "degrees",
+        Stated::Other => "other",
+        Stated::Unclear => "unclear",
+    }
+}
+
+/// The unit of a length.
+pub(crate) fn length_of(stated: Stated) -> Option<Unit> {
+    match stated {
+        Stated::Length(unit) => Some(unit),
+        _ => None,
     }
 }

@@ -1,13 +1,12 @@
 -- The register that a session begins with.
 use Rattle.std.proofs.Common.{◌≡◌, inl, inr, refl, sym, ap, ◌∙◌, subst, ℕ, ◌+◌, ◌-◌, ◌<◌, List, [], ◌∷◌, ◌++◌, length, map, arith}
-use Rattle.std.proofs.Common.{Result, Ok, Err, IsErrOf, Bool, true, false, take, codes, append-nil}
-use Rattle.std.proofs.lemmas.List.{length-append, take_all}
-use Rattle.std.proofs.Math.Seq.{take-append_seam}
+use Rattle.std.proofs.Common.{Result, Ok, Err, IsErrOf, Bool, true, false, take}
 use Rattle.geo_exact.specs.declared.coord.Unit.{Unit as LengthUnit}
 use Rattle.journal_records.specs.declared.seal.Seal.{Seal}
 use Rattle.journal_records.specs.declared.record.Record.{Record}
-use Rattle.journal_records.specs.Journals.{header_line, records_text, seal_text, ended, IsReadWhole, IsHeaderFault}
+use Rattle.journal_records.specs.Journals.{header_line, records_text, seal_text, ended, IsHeaderFault}
 use Rattle.journal_writers.specs.Writers.{IsKept}
+use Rattle.journal_writers.proofs.Kept.{kept_of}
 use Rattle.fabric_core.specs.declared.refusal.Refusal.{Refusal}
 use Rattle.fabric_core.specs.Rows.{Tiles}
 use Rattle.fabric_core.specs.Journal.{JournalEntry, Book, State, opening_state, replay}
@@ -137,48 +136,21 @@ module _ {A : Type 0} where
       marked.are_so_many ∙ none_of layer.digits text marked.records replayed.seal.digits marked.rest replayed.lacks_end
       marked.is_text empty
 
-  -- what is whole of a journal's text
-  kept_of : (layer text : List ℕ) (records : List (Record A)) (seal rest : List ℕ) (lacks : Bool) (count whole torn : ℕ)
+  -- what is whole of the text that a register was begun with
+  kept_of_marked : (layer text : List ℕ) (records : List (Record A)) (seal rest : List ℕ) (lacks : Bool) (count whole torn : ℕ)
       → IsTextOf layer text records seal rest lacks → count ≡ length records → torn ≡ length rest → 0 < length text
       → whole ≡ length text - torn → IsKept A layer (ended lacks (take whole text)) count seal
-  kept_of layer text records seal rest true count whole torn (inl journal) so_many is_torn some is =
-      let none : rest ≡ [] = journal.is_ended refl in
-      let all : take whole text ≡ text = take_all whole text (omega (arith, is, is_torn, ap length none)) in
-      record {
-        written = records;
-        are_lines = subst (λ t. IsReadWhole layer (ended true t) records seal []) (sym all)
-            (subst (λ r. IsReadWhole layer (text ++ codes "\n") records seal r) none journal.is_read);
-        count = sym so_many;
-      }
-  kept_of layer text records seal rest false count whole torn (inl journal) so_many is_torn some is =
-      let front = header_line layer ++ records_text layer records in
-      let read = journal.is_read.is_read in
-      let sum : length text ≡ length front + length rest = ap length read.is_text ∙ length-append front rest in
-      let place : whole ≡ length front = omega (arith, is, is_torn, sum) in
-      let cut : take whole text ≡ front =
-      ap (λ n. take n text) place ∙ ap (λ b. take (length front) b) read.is_text ∙ take-append_seam front rest in
-      record {
-        written = records;
-        are_lines = record {
-          is_read = record {
-            is_text = cut ∙ sym (append-nil front);
-            is_seal = read.is_seal;
-            are_numbered = read.are_numbered;
-          };
-          in_lines = journal.is_read.in_lines;
-        };
-        count = sym so_many;
-      }
-  kept_of layer text records seal rest lacks count whole torn (inr h) so_many is_torn some is =
+  kept_of_marked layer text records seal rest lacks count whole torn (inl journal) so_many is_torn some is =
+      kept_of layer text records seal rest lacks count whole torn journal so_many is_torn is
+  kept_of_marked layer text records seal rest lacks count whole torn (inr h) so_many is_torn some is =
       absurd (omega (arith, some, ap length h.0))
 
-  -- and of the text that a register was begun with
   pub kept_text : (text : List ℕ) (replayed : Replayed) (layer : Seal) (whole : ℕ) → IsMarked A text replayed layer
       → 0 < length text → whole ≡ length text - replayed.torn
       → IsKept A layer.digits (ended replayed.lacks_end (take whole text)) replayed.records replayed.seal.digits
   kept_text text replayed layer whole marked some is =
-      kept_of layer.digits text marked.records replayed.seal.digits marked.rest replayed.lacks_end replayed.records whole replayed.torn
-      marked.is_text marked.are_so_many marked.is_torn some is
+      kept_of_marked layer.digits text marked.records replayed.seal.digits marked.rest replayed.lacks_end replayed.records whole
+      replayed.torn marked.is_text marked.are_so_many marked.is_torn some is
 
 -- what is told of a journal's first line, over the layer that a register was opened with
 pub fault_over : {A : Type 0} (tiles : Tiles) (text seal : List ℕ) (fresh : Book A) (fault : ReplayFault) → fresh.city ≡ tiles.city

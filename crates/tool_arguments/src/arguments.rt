@@ -287,6 +287,8 @@ fn explain_command<'a>(alloc: Global) -> Result<Command<'a>, AllocError> {
             Arg::new(alloc, "CODE")
                 .action(ArgAction::Append)
                 .num_args(0..)
+                // Of the text of a refusal, as `net -1`.
+                .allow_negative_numbers(true)
                 .help("The code as it was printed: `F9 C2`, `H2`, `no memory`"),
         )
 }
@@ -404,7 +406,8 @@ fn force<'a>(alloc: Global) -> Arg<'a> {
         .long("force")
         .action(ArgAction::SetTrue)
         .help(
-            "Removes BASE.dbf and BASE.prj, which would name other parcels; without it, they are refused",
+            "Removes what a GIS reads with BASE.shp, as BASE.dbf, .prj and .qix of an older layer; without it, they \
+             are refused",
         )
 }
 

@@ -320,6 +320,7 @@ class _Run:
         except Refused as why:
             pairs, unwritten = ({}, {}), self.stopped or why
         layers = Layers(records, astray, *self._numbers(rows, verdicts), self._areas(rows), *pairs)
+        layers = replace(layers, misfiled=self._misfiled(rows, verdicts))
         summary = Summary(list(verdicts.values()), wholes_of(rows, verdicts, layers), len(self.kept))
         summary.kept_names, summary.differing = frozenset(self.kept), self._differing()
         summary.unwritten = unwritten
@@ -351,6 +352,14 @@ class _Run:
 
         shared = {name: shared_numbers(some) for name, some in below.items()}
         return shared, {name: crossings(some, refused) for name, some in below.items() if name not in refused}
+
+    def _misfiled(self, rows: Sequence[Row], verdicts: Dict[str, Verdict]) -> Dict[str, List[str]]:
+        """Cities that all parcels tile though districts do not: by each the districts with parcels of one another."""
+        if not any(row.part_of is not None and verdicts[row.name].code == "H2" for row in rows):
+            return {}
+        from .filing import misfiled
+
+        return misfiled(rows, verdicts, self._check_of_all_faults)
 
     def _areas(self, rows: Sequence[Row]) -> Dict[str, int]:
         """Twice the areas in mm2 of the cities of districts that are overlaid, since an overlay tells none."""
@@ -434,7 +443,10 @@ class _Run:
         from .faults_file import Faults
 
         faults = Faults()
-        summary.untold = [row.name for row in refused if not self._add_faults(faults, row)]
+        filed = {name for names in layers.misfiled.values() for name in names}
+        summary.untold = [
+            row.name for row in refused if row.name not in filed and not self._add_faults(faults, row, rows)
+        ]
         by_name = {row.name: row for row in rows} if layers.crossing else {}
         for city, several in layers.crossing.items():
             for it in several if by_name[city].part_of is None else ():  # a city within it has none that this one lacks
@@ -444,15 +456,22 @@ class _Run:
         if faults.save(self.results.path / "faults.gpkg"):
             summary.faults_file = str(self.results.path / "faults.gpkg")
 
-    def _add_faults(self, faults: Faults, row: Row) -> bool:
+    def _add_faults(self, faults: Faults, row: Row, rows: Sequence[Row]) -> bool:
         """Takes every fault of a refused city; False where the check that told them has none of the same files."""
+        told = self._check_of_all_faults(row)
+        if told is None:
+            return False
+        faults.add(row, told, [it for it in rows if it.part_of is not None and it.part_of == row.part_of and it != row])
+        return True
+
+    def _check_of_all_faults(self, row: Row) -> Optional[Result]:
+        """The check that told every fault of a refused city; None where it has none of the same files."""
         city = self.found["cities"][row.name][0]
         kind = "cities" if self.layer_of_first_fault(row) is None else "faults"
         told = self.results.result(kind, row.name) if row.name in self.found[kind] else None
         if told is None or told.run != self.found[kind][row.name][0].run or not _same_files(city, told):
-            return False
-        faults.add(row, told)
-        return True
+            return None
+        return told
 
     def _has_its_ring(self, row: Row) -> bool:
         """Whether a district was judged in its ring: the record of the very file that the layer's verdict is of."""

@@ -8,7 +8,7 @@ import shutil
 from dataclasses import asdict, dataclass, field
 from functools import cached_property
 from pathlib import Path
-from typing import Any, Dict, List, Optional, Sequence, Tuple, Union
+from typing import Any, Callable, Dict, List, Optional, Sequence, Tuple, Union
 
 import geopandas as gpd
 import numpy as np
@@ -258,14 +258,19 @@ class Prepared:
         """The folders of the islands: the work folder itself where there is one island."""
         return [work] if len(self.islands) == 1 else [work / f"island_{i}" for i in range(1, len(self.islands) + 1)]
 
-    def save(self, work: Union[str, Path]) -> None:
-        """Writes the folder whole or not at all. One that was there is replaced where `prepare` made it, else P14."""
+    def save(self, work: Union[str, Path], more: Optional[Callable[[Path], object]] = None) -> None:
+        """Writes the folder whole or not at all. One that was there is replaced where `prepare` made it, else P14.
+
+        `more` writes what else is to stand in it.
+        """
         work = Path(work)
         test_own(work)
         aside = work.with_name(f".{os.getpid()}.{work.name}")
         try:
             aside.mkdir(parents=True)
             self._write(aside)
+            if more is not None:
+                more(aside)
             _put_in_place(aside, work)
         except OSError as fault:
             raise Refused("P14", f"{work} can't be written: {fault}") from fault

@@ -26,31 +26,31 @@ _TEXTS = {
 
 def application(site: Site, issuer: Optional[str] = None) -> FastAPI:
     """The application of a register."""
-    app = FastAPI(
-        title="A parcel register",
-        version="1.1.0",
-        description="Parcels that tile a city, exactly, by a formally verified program. Coordinates of edits and of "
+    app = bare_application(
+        "A parcel register",
+        "Parcels that tile a city, exactly, by a formally verified program. Coordinates of edits and of "
         "`/locate` are whole millimetres.",
+    )
+    app.state.site, app.state.issuer = site, issuer
+    themes = (edits, places, parcels, pages, features, tiles, styles, drafts, state)
+    for module in themes:  # the first ones are found soonest
+        app.include_router(module.router)
+    return app
+
+
+def bare_application(title: str, description: str) -> FastAPI:
+    """An application without routes, that answers what is refused."""
+    app = FastAPI(
+        title=title,
+        version="1.1.0",
+        description=description,
         openapi_url=None,
         docs_url=None,
         redoc_url=None,
         dependencies=[Depends(known_parameters)],
         responses={400: {"model": Refusal, "description": "a parameter or a body that is not understood"}},
     )
-    app.state.site, app.state.issuer = site, issuer
     _add_faults(app)
-    for module in (
-        edits,
-        places,
-        parcels,
-        pages,
-        features,
-        tiles,
-        styles,
-        drafts,
-        state,
-    ):  # the first ones are found soonest
-        app.include_router(module.router)
     return app
 
 

@@ -21,9 +21,15 @@ def add_commands(commands: Any) -> None:
     """Adds both to the commands of a command line."""
     one = commands.add_parser("serve", help="a register on the web, for clerks, readers and a GIS")
     one.add_argument("folder", metavar="FOLDER", help="what prepare wrote")
-    one.add_argument("--journal", required=True, metavar="FILE", help="the journal; it is made where it is not there")
+    one.add_argument(
+        "--journal",
+        required=True,
+        metavar="FILE",
+        help="the journal, or of districts the folder of journals; it is made",
+    )
     one.add_argument("--island", type=int, default=1, metavar="N", help="the island of the register (1)")
     one.add_argument("--crs", metavar="EPSG:CODE", help="the projection of a layer that has none")
+    one.add_argument("--awake", type=int, metavar="N", help="districts that stay open while nobody asks them (16)")
     _add_server(one)
     two = commands.add_parser("backup", help="copies a register that may be open: layer, journal and digests")
     two.add_argument("folder", metavar="FOLDER", help="what prepare wrote, or with --check a backup")

@@ -89,23 +89,23 @@ class Gate:
         except Exception:
             LOG.exception("a request was not answered")
             if not sent.status:
-                await _refuse(sent, scope, receive, 500, "fault", "the server has a fault here: tell its operator when")
+                await refuse(sent, scope, receive, 500, "fault", "the server has a fault here: tell its operator when")
         self._metrics.answered(scope["path"], sent.status, time.perf_counter() - begun)
 
     async def _answer(self, scope: MutableMapping[str, Any], receive: Receive, send: "_Sent") -> None:
         refusal = self._refusal(scope, dict(scope["headers"]))
         if refusal is not None:
-            await _refuse(send, scope, receive, *refusal)
+            await refuse(send, scope, receive, *refusal)
             return
         client: Optional[Client] = scope["state"]["client"]
         name = client.name if client else (scope.get("client") or ("",))[0]
         is_stream = scope["path"] == "/changes"
         if not self._unsent.takes(name):
-            await _refuse(send, scope, receive, 429, "unread", "you have not read what you were sent: read it first")
+            await refuse(send, scope, receive, 429, "unread", "you have not read what you were sent: read it first")
             return
         if not self._shares.begin(name, is_stream):
             text = "too many requests of yours are under way: send the next one when one is answered"
-            await _refuse(send, scope, receive, 429, "share", text)
+            await refuse(send, scope, receive, 429, "share", text)
             return
         try:
             await self._hand_on(scope, receive, send)
@@ -133,7 +133,7 @@ class Gate:
             )
         if scope["method"] not in ("GET", "HEAD") and not _is_own(headers):
             return 403, "origin", "a page of another site may not send this"
-        is_open = scope["method"] in ("GET", "HEAD") and _is_open(scope["path"])
+        is_open = scope["method"] in ("GET", "HEAD") and self.is_open(scope["path"])
         client: Optional[Client] = LOCAL
         if self._clients is not None:
             client = self._clients.client(headers.get(b"authorization", b"").decode("latin-1"))
@@ -149,6 +149,10 @@ class Gate:
             return 413, "size", f"a body has at most {MOST_BODY} bytes"
         scope.setdefault("state", {})["client"] = client
         return None
+
+    def is_open(self, path: str) -> bool:
+        """Whether anyone may ask for an address."""
+        return _is_open(path)
 
 
 class _Enough(Exception):
@@ -239,7 +243,8 @@ def _role_for(path: str, method: str) -> int:
     return 1 if path.startswith(("/edits", "/drafts")) and method not in ("GET", "HEAD") else 0
 
 
-async def _refuse(send: Send, scope: Any, receive: Receive, status: int, code: str, text: str) -> None:
+async def refuse(send: Send, scope: Any, receive: Receive, status: int, code: str, text: str) -> None:
+    """Answers a request that is not carried out."""
     headers = {"connection": "close"} if status in (413, 500) else {}
     if status == 401:
         headers["www-authenticate"] = 'Bearer realm="register", Basic realm="register"'

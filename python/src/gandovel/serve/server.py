@@ -14,13 +14,14 @@ import sys
 from collections import Counter
 from functools import partial
 from pathlib import Path
-from typing import Any, ClassVar, Dict, Optional, Tuple
+from typing import Any, Callable, ClassVar, Dict, Optional, Tuple
 
 import uvicorn
 from starlette.middleware.cors import CORSMiddleware
 from uvicorn.protocols.http.httptools_impl import HttpToolsProtocol
 
 from ..errors import Refused
+from ..metropolis.manifest import is_metropolis
 from .access import Clients, Tokens
 from .app import application
 from .direct import Direct
@@ -161,9 +162,12 @@ class Server(uvicorn.Server):  # type: ignore[misc]
             sockets[0].setblocking(False)
             sockets[0].listen(self.config.backlog)
             self._door = asyncio.get_running_loop().create_task(Door(sockets[0], self._security, made).run())
+        print(f"serving {self.told()} at {self._address}", flush=True)
+
+    def told(self) -> str:
+        """What is served."""
         faults = self._register.faults
-        what = f"{len(self._register.entries)} entries" if faults is None else f"a layer with {len(faults)} faults"
-        print(f"serving {what} at {self._address}", flush=True)
+        return f"{len(self._register.entries)} entries" if faults is None else f"a layer with {len(faults)} faults"
 
     async def shutdown(self, sockets: Any = None) -> None:
         if self._door is not None:
@@ -198,6 +202,9 @@ def serve(options: argparse.Namespace) -> None:
         raise Refused("W4", f"without --tokens or --oidc {text}")
     security = _security(options.certfile, options.keyfile)
     folder, journal = Path(options.folder), Path(options.journal).absolute()
+    if is_metropolis(folder):
+        _serve_metropolis(options, clients, security)
+        return
     if folder.resolve() in journal.resolve().parents:
         raise Refused(
             "W2", "the journal may not lie in the layer's folder, which prepare replaces: give it another folder"
@@ -213,6 +220,20 @@ def serve(options: argparse.Namespace) -> None:
     listener = _listener(options.host, options.port)
     try:
         _loop()(_run(options, Register(layer, journal, options.keep), clients, listener, security))
+    finally:
+        listener.close()
+
+
+def _serve_metropolis(
+    options: argparse.Namespace, clients: Optional[Clients], security: Optional[ssl.SSLContext]
+) -> None:
+    """Serves a register of districts. Refused W2, W8, P1, P14."""
+    from ..metropolis.server import metropolis_of, run_metropolis
+
+    metropolis = metropolis_of(options)
+    listener = _listener(options.host, options.port)
+    try:
+        _loop()(run_metropolis(options, metropolis, clients, listener, security))
     finally:
         listener.close()
 
@@ -252,8 +273,21 @@ async def _run(
     site, proxies = Site(register, metrics, options.url, base_map), os.environ.get("FORWARDED_ALLOW_IPS", "127.0.0.1")
     inner = application(site, options.oidc)
     within = Direct(inner, Representations(inner))
-    Connection.proxies = tuple(it.strip() for it in proxies.split(","))
     app: Any = Gate(within, clients, options.rate, metrics, proxies, options.clients, base_map)
+    await run_application(options, app, register, listener, security)
+
+
+async def run_application(
+    options: argparse.Namespace,
+    app: Any,
+    register: Any,
+    listener: socket.socket,
+    security: Optional[ssl.SSLContext],
+    made: "Callable[..., Server] | None" = None,
+) -> None:
+    """Serves an application until a signal, and closes its register then. `made` makes the server (`Server`)."""
+    proxies = os.environ.get("FORWARDED_ALLOW_IPS", "127.0.0.1")
+    Connection.proxies = tuple(it.strip() for it in proxies.split(","))
     if options.cors:
         app = CORSMiddleware(app, options.cors, ("GET", "HEAD"), _CORS_TAKEN, expose_headers=_CORS_SHOWN, max_age=600)
     config = uvicorn.Config(
@@ -271,7 +305,8 @@ async def _run(
     )
     scheme = "http" if security is None else "https"
     host, port = listener.getsockname()[:2]
-    server = Server(config, register, f"{scheme}://{f'[{host}]' if ':' in host else host}:{port}/", security)
+    address = f"{scheme}://{f'[{host}]' if ':' in host else host}:{port}/"
+    server = (made or Server)(config, register, address, security)
     try:
         await server.serve(sockets=[listener])
     finally:

@@ -1,4 +1,4 @@
-use Rattle.std.proofs.Common.{◌≡◌, inr, sym, subst, IfSome}
+use Rattle.std.proofs.Common.{inr, sym, subst, IfSome}
 use Rattle.journal_records.specs.Journals.{ended}
 use Rattle.journal_writers.specs.Writers.{IsKept}
 use Rattle.journal_writers.proofs.Kept.{went_on}

@@ -1,0 +1,6 @@
+pub mod Factors
+pub mod Keywords
+pub mod Names
+pub mod Plain
+pub mod Projections
+pub mod Readings
