@@ -56,7 +56,7 @@ async def answered_edit(site: Site, name: str, headers: Headers, body: bytes) ->
 
 async def _made(site: Site, name: str, given: Headers, why: Optional[str], body: bytes) -> Response:
     line, reason = edit_of(body, given.get("content-type", "application/json"), why)
-    asked = Asked(line, said_by(name, reason, key_of(given.get("idempotency-key"))))
+    asked = Asked(line, said_of(name, reason, key_of(given.get("idempotency-key"))))
     at, refused = _at(given.get("if-match")), site.metrics.refused
     try:
         entry, is_repeated = await site.register.submit(asked, at)
@@ -91,7 +91,7 @@ def key_of(text: Optional[str]) -> Optional[str]:
     raise BadRequest("Idempotency-Key", "a key is 1 to 100 signs of ASCII without a space")
 
 
-def said_by(name: str, why: str, key: Optional[str]) -> Said:
+def said_of(name: str, why: str, key: Optional[str]) -> Said:
     """What the journal's record has of a client. Raises `BadRequest`."""
     said = Said(name, why, key)
     size = len(said.word.encode())
