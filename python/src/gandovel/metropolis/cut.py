@@ -9,8 +9,6 @@ from contextlib import closing
 from pathlib import Path
 from typing import Dict, List, Sequence, Tuple
 
-import numpy as np
-
 from ..arrays import Array
 from ..errors import Refused
 from ..large import MOST_RINGS

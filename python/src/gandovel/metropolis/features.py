@@ -1,20 +1,55 @@
 """The collection of parcels over all districts, page by page: those of the districts one behind the other."""
 from __future__ import annotations
 
-from typing import Any, Dict, List, Mapping, Optional, Tuple
+from dataclasses import dataclass
+from typing import Any, Dict, List, Mapping, Optional, Sequence
 from urllib.parse import urlencode
 
+import numpy as np
+from shapely.geometry import Polygon
+from shapely.prepared import prep
+
+from ..arrays import Array
 from ..serve.crs import CRS84, Projection
-from ..serve.entries import Row
-from ..serve.faults import Gone, NoSuchThing
-from ..serve.features import Collections, Page, link, now
-from ..serve.queries import DEFAULT_LIMIT, MOST_LIMIT, Asked, only, whole
+from ..serve.entries import Row, Versions
+from ..serve.faults import BadRequest, Gone, NoSuchThing
+from ..serve.features import Collections, link, now
+from ..serve.queries import DEFAULT_LIMIT, MOST_LIMIT, whole
 from ..serve.register import Register
 from .district import District
 from .office import Metropolis
 from .vectors import Vector, text_of, vector_of
 
-PARAMETERS = {"bbox", "bbox-crs", "crs", "limit", "offset", "entries", "f", "number"}
+
+@dataclass(frozen=True)
+class Page:
+    """What an answer has: its body, the versions of the districts that it has looked at, and its projection's URI."""
+
+    body: Dict[str, Any]
+    versions: Vector
+    crs: str
+
+
+@dataclass(frozen=True)
+class Asked:
+    """What a request asks for: `area` is a box as a shape in mm, None for all; `versions` what it names."""
+
+    limit: int
+    offset: int
+    crs: str
+    area: Any
+    number: Optional[str]
+    versions: Vector
+
+    @classmethod
+    def of(cls, given: Mapping[str, str], projection: Projection) -> "Asked":
+        """Reads it. Raises `BadRequest`."""
+        area = None
+        if "bbox" in given:
+            area = projection.area(_box(given["bbox"]), projection.named(given.get("bbox-crs"), "bbox-crs"))
+        limit, offset = whole(given, "limit", DEFAULT_LIMIT, 1), whole(given, "offset", 0, 0)
+        crs, versions = projection.named(given.get("crs"), "crs"), vector_of(given.get("entries"))
+        return cls(min(limit, MOST_LIMIT), offset, crs, area, given.get("number"), versions)
 
 
 class Features:
@@ -24,78 +59,54 @@ class Features:
         self._all = metropolis
 
     async def projection(self) -> Projection:
-        """The projection of a district, which is that of all. Raises `NotServing`."""
+        """The projection of all districts, for the box of all. Raises `NotServing`."""
         async with self._all.districts[1].open() as register:
-            return register.layer.projection
+            own = register.layer.projection
+        _, boxes = self._all.boxes()
+        return Projection(own.crs, own.scale, boxes[:, :2].min(axis=0), boxes[:, 2:].max(axis=0))
 
     async def told(self, base: str) -> Dict[str, Any]:
         """What an answer says of the collection."""
         async with self._all.districts[1].open():
-            collections = _of(self._all.districts[1])
-            told = collections.told("parcels", base)
-        links = [
-            it for it in told["links"] if not any(word in it["href"] for word in ("schema", "queryables", "tiles"))
-        ]
-        return {**told, "links": links, "extent": {"spatial": {"bbox": [await self._extent()], "crs": CRS84}}}
+            told = _of(self._all.districts[1]).told("parcels", base)
+        missing = ("schema", "queryables", "tiles")
+        links = [it for it in told["links"] if not any(word in it["href"] for word in missing)]
+        extent = (await self.projection()).extent
+        return {**told, "links": links, "extent": {"spatial": {"bbox": [extent], "crs": CRS84}}}
 
-    async def _extent(self) -> List[float]:
-        numbers, boxes = self._all.boxes()
-        one = await self.projection()
-        low, high = boxes[:, :2].min(axis=0), boxes[:, 2:].max(axis=0)
-        return Projection(one.crs, one.scale, low, high).extent
-
-    async def page(self, given: Mapping[str, str], base: str) -> Tuple[Page, Vector]:
+    async def page(self, given: Mapping[str, str], base: str) -> Page:
         """A page of features. Raises `BadRequest`, `Gone`, `NotServing`."""
-        only(given, PARAMETERS)
-        limit = min(whole(given, "limit", DEFAULT_LIMIT, 1), MOST_LIMIT)
-        offset = whole(given, "offset", 0, 0)
-        versions = vector_of(given.get("entries"))
+        projection = await self.projection()
+        asked = Asked.of(given, projection)
+        matched, shown = 0, dict(asked.versions)
         features: List[Dict[str, Any]] = []
-        matched, shown, crs = 0, dict(versions), CRS84
-        rest = {name: it for name, it in given.items() if name in ("bbox", "bbox-crs", "crs", "number")}
-        async with self._all.reading(await self._asked(rest)) as districts:
+        async with self._all.reading(self._asked(asked)) as districts:
             for district in districts:
-                if district.unasked is not None and len(features) >= limit and not rest.keys() - {"crs"}:
+                is_plain = asked.area is None and asked.number is None
+                if district.unasked is not None and len(features) >= asked.limit and is_plain:
                     matched += district.unasked
                     shown[district.number] = district.entries
                     continue
-                first = max(0, offset - matched)
-                some = {**rest, "limit": str(max(1, limit - len(features))), "offset": str(first)}
                 async with district.open() as register:
-                    version = await _version(district, register, versions)
-                    page = await _of(district).page("parcels", {**some, "entries": str(version)}, base)
+                    version = await _version(district, register, asked.versions)
+                    view = await _of(district).view("parcels", version)
                     shown[district.number] = district.seat.before + version
-                    crs = page.crs
-                    if len(features) < limit:
-                        features += [self.outward(district, it) for it in page.body["features"]]
-                    matched += int(page.body["numberMatched"])
-        return Page(self._body(given, base, (limit, offset), matched, features, shown), 0, crs), shown
+                    places = _matching(register, view.versions, view.places(_bounds(asked.area)), asked)
+                    some = places[max(0, asked.offset - matched) :][: asked.limit - len(features)]
+                    rows = [view.versions.row(at) for at in some.tolist()]
+                    features += [self.outward(district, it) for it in _features(district, rows, projection, asked.crs)]
+                    matched += len(places)
+        return Page(self._body(given, base, asked, matched, features, shown), shown, asked.crs)
 
-    async def _asked(self, given: Mapping[str, str]) -> List[int]:
+    def _asked(self, asked: Asked) -> List[int]:
         """The districts that a page may have something of."""
-        async with self._all.districts[1].open() as register:
-            asked = Asked.of(given, register)
-            projection = register.layer.projection
         found = set(self._all.districts)
         if asked.area is not None:
-            box = asked.area.bounds if not asked.area.is_empty else None
-            found &= set() if box is None else set(self._all.near(box[:2], box[2:]))
-        elif "bbox" in given:
-            found &= set(self._in_degrees(projection, given))
+            bounds = _bounds(asked.area)
+            found &= set() if asked.area.is_empty else set(self._all.near(bounds[:2], bounds[2:]))
         if asked.number is not None:
             found &= set(self._all.now.numbered(asked.number))
         return sorted(found)
-
-    def _in_degrees(self, projection: Projection, given: Mapping[str, str]) -> List[int]:
-        """The districts whose own boxes a box in degrees, or of another projection, may meet."""
-        named = projection.named(given.get("bbox-crs"), "bbox-crs")
-        numbers, boxes = self._all.boxes()
-        whole_one = Projection(projection.crs, projection.scale, boxes[:, :2].min(axis=0), boxes[:, 2:].max(axis=0))
-        words = [float(word) for word in given["bbox"].split(",")]
-        area = whole_one.area(words if len(words) == 4 else [*words[:2], *words[3:5]], named)
-        if area is None:
-            return numbers
-        return [] if area.is_empty else self._all.near(area.bounds[:2], area.bounds[2:])
 
     def outward(self, district: District, feature: Dict[str, Any]) -> Dict[str, Any]:
         """A feature of a district with its global id."""
@@ -108,12 +119,12 @@ class Features:
         self,
         given: Mapping[str, str],
         base: str,
-        asked: Tuple[int, int],
+        asked: Asked,
         matched: int,
         features: List[Dict[str, Any]],
         shown: Vector,
     ) -> Dict[str, Any]:
-        (limit, offset), at = asked, f"{base}/collections/parcels/items"
+        limit, offset, at = asked.limit, asked.offset, f"{base}/collections/parcels/items"
         links = [link(f"{at}?{urlencode(dict(given))}".rstrip("?"), "self", "application/geo+json", "this page")]
         links.append(link(f"{at}?{urlencode({**given, 'f': 'html'})}", "alternate", "text/html", "this page"))
         if features and offset + len(features) < matched:
@@ -128,18 +139,65 @@ class Features:
             "features": features,
         }
 
-    async def feature(self, parcel: int, given: Mapping[str, str], base: str) -> Tuple[Page, Vector]:
+    async def feature(self, parcel: int, given: Mapping[str, str], base: str) -> Page:
         """One feature. Raises `NoSuchThing`, `BadRequest`, `NotServing`."""
-        only(given, {"crs", "f"})
-        district = self._all.home(parcel)
+        projection, district = await self.projection(), self._all.home(parcel)
+        crs = projection.named(given.get("crs"), "crs")
         local = None if district is None else district.seat.ids.inward(parcel)
-        if district is None or local is None:
-            raise NoSuchThing("feature", f"parcels has no feature {parcel}")
-        async with district.open():
-            page = await _of(district).feature("parcels", str(local), given, base)
-        found = self.outward(district, page.body)
-        found["links"] = [link(f"{base}/collections/parcels/items/{parcel}", "self", "application/geo+json", "this")]
-        return Page(found, 0, page.crs), {district.number: district.seat.before + page.entries}
+        if district is not None and local is not None:
+            async with district.open() as register:
+                version = await register.shown()
+                row = register.versions.find(local, version)
+                if row is not None:
+                    (found,) = _features(district, [row], projection, crs)
+                    at = f"{base}/collections/parcels/items/{parcel}"
+                    body = {
+                        **self.outward(district, found),
+                        "links": [link(at, "self", "application/geo+json", "this")],
+                    }
+                    return Page(body, {district.number: district.seat.before + version}, crs)
+        raise NoSuchThing("feature", f"parcels has no feature {parcel}")
+
+
+def _box(text: str) -> List[float]:
+    """The four numbers of a box. Raises `BadRequest`."""
+    try:
+        numbers = [float(word) for word in text.split(",")]
+    except ValueError:
+        numbers = []
+    if len(numbers) not in (4, 6) or not np.isfinite(numbers).all():
+        raise BadRequest("bbox", "bbox is four numbers, or six, with commas between")
+    return numbers if len(numbers) == 4 else [*numbers[:2], *numbers[3:5]]
+
+
+def _bounds(area: Any) -> Any:
+    """The box around an area; None of none."""
+    return None if area is None or area.is_empty else area.bounds
+
+
+def _matching(register: Register, versions: Versions, places: Array, asked: Asked) -> Array:
+    """Those rows whose shapes meet the area, measured at its edge, and that have the number."""
+    if asked.number is not None:
+        places = places[np.isin(versions.ids(places), register.layer.parcels_named(asked.number))]
+    if asked.area is None:
+        return places
+    meets = prep(asked.area)
+    kept = [meets.intersects(Polygon(versions.row(at).ring)) for at in places.tolist()]
+    return np.asarray(places[np.array(kept, dtype=bool)])
+
+
+def _features(district: District, rows: Sequence[Row], projection: Projection, crs: str) -> List[Dict[str, Any]]:
+    """Parcels of a district as GeoJSON, with local ids."""
+    if not rows:
+        return []
+    ends = np.cumsum([len(row.ring) for row in rows])
+    rings = np.split(projection.coordinates(np.concatenate([row.ring for row in rows]), crs), ends[:-1])
+    told = []
+    for row, ring in zip(rows, rings):
+        shape = {"type": "Polygon", "coordinates": [[*ring.tolist(), ring[0].tolist()]]}
+        own = _of(district).parcel_properties(row)
+        told.append({"type": "Feature", "id": row.id, "geometry": shape, "properties": own})
+    return told
 
 
 async def _version(district: District, register: Register, versions: Vector) -> int:

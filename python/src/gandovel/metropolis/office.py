@@ -13,7 +13,7 @@ from typing import Any, AsyncIterator, Dict, Iterator, List, Optional, Sequence,
 import numpy as np
 
 from ..arrays import Array
-from ..errors import JournalInUse
+from ..errors import JournalInUse, Refused
 from ..large.cutting import boxes_of
 from ..serve.entries import Entry
 
@@ -45,17 +45,15 @@ class Metropolis:
         Refused P1, P14, W8; `JournalInUse` where another server has the journals.
         """
         self._awake, self._keep, self._crs = awake, keep, crs
-        journals.mkdir(mode=0o700, parents=True, exist_ok=True)
         self._lock = _locked(journals)
-        self.now: State = read_state(folder, journals)
-        counts = test_state(self.now)
         self.outlines: Dict[int, Outlines] = {}
-        for island, path in self.now.outlines.items():
-            self.outlines[island] = Outlines(island, self.now.cities[island], path)
-        self.districts: Dict[int, District] = {
-            number: self.seated(seat, self.outlines[seat.row.island], counts[number])
-            for number, seat in self.now.seats.items()
-        }
+        self.districts: Dict[int, District] = {}
+        try:
+            self.now: State = read_state(folder, journals)
+            self._read(test_state(self.now))
+        except BaseException:
+            os.close(self._lock)
+            raise
         self._boxes: Optional[Tuple[List[int], Array]] = None
         self.exchanges = 0
         """How often districts took the places of others."""
@@ -63,6 +61,13 @@ class Metropolis:
         """`changing` is held while districts are recut, one pair at a time."""
         self._tending: Optional["asyncio.Task[None]"] = None
         self._retiring: Set["asyncio.Task[None]"] = set()
+
+    def _read(self, counts: Dict[int, int]) -> None:
+        """Reads the layers of outlines; each district is at its seat then, with so many entries, and asleep."""
+        for island, path in self.now.outlines.items():
+            self.outlines[island] = Outlines(island, self.now.cities[island], path)
+        for number, seat in self.now.seats.items():
+            self.districts[number] = self.seated(seat, self.outlines[seat.row.island], counts[number])
 
     def seated(self, seat: Seat, outlines: Outlines, count: int = 0) -> District:
         """A district at a seat, asleep; `count` is how many entries its journal has."""
@@ -283,8 +288,12 @@ def _by_time(number: int, entries: Sequence[Entry]) -> List[Tuple[str, int, int,
 
 
 def _locked(journals: Path) -> int:
-    """The lock of a folder of journals. Raises `JournalInUse` where another server has it."""
-    lock = os.open(journals, os.O_RDONLY | os.O_DIRECTORY | os.O_CLOEXEC)
+    """The lock of a folder of journals, made where it is not there. Refused P14; raises `JournalInUse`."""
+    try:
+        journals.mkdir(mode=0o700, parents=True, exist_ok=True)
+        lock = os.open(journals, os.O_RDONLY | os.O_DIRECTORY | os.O_CLOEXEC)
+    except OSError as fault:
+        raise Refused("P14", f"{journals}, for the journals, can't be made or read: {fault.strerror}") from fault
     try:
         fcntl.flock(lock, fcntl.LOCK_EX | fcntl.LOCK_NB)
     except OSError:

@@ -17,12 +17,11 @@ from ..serve.metrics import Metrics
 from ..serve.models import Points, told_by
 from ..serve.openapi import definition
 from ..serve.queries import DEFAULT_LIMIT, MOST_LIMIT
-from ..serve.routes.edits import WHY, key_of, said_by
-from ..serve.routes.features import BBOX, BBOX_CRS, CRS, LIMIT, NUMBER, OFFSET
+from ..serve.routes.edits import key_of, said_of
 from ..serve.routes.parameters import FORM
 from ..serve.site import GEOJSON, OPENAPI, kind_of, shown
 from .edits import Edits, Made
-from .features import Features, parcel_json
+from .features import Features, Page, parcel_json
 from .lineage import Lineage, entry_json
 from .office import Metropolis, Where
 from .page import page_of
@@ -31,6 +30,13 @@ from .zones import Zones, names_at
 
 VERSIONS = Query(None, description="after how many entries of each district, as 3:17,8:2")
 MOST_ENTRIES = 10_000
+WHY = Query(None, description="the reason, where the body is text/plain")
+BBOX = Query(None, description="west,south,east,north, in the projection of bbox-crs")
+CRS = Query(None, description="the projection of the answer: one of the collection's `crs`")
+BBOX_CRS = Query(None, alias="bbox-crs", description="the projection of bbox: one of the collection's `crs`")
+LIMIT: Any = Query(100, ge=1, description="how many at most; more than 1000 are taken as 1000")
+OFFSET = Query(None, ge=0, description="how many are left out; `next` has it")
+NUMBER = Query(None, description="only what has this number, or comes from it")
 BOX = Query(None, description="west,south,east,north in whole millimetres")
 
 
@@ -287,7 +293,7 @@ def _journals(place: Place) -> APIRouter:
 async def made(place: Place, name: str, given: Headers, why: Optional[str], body: bytes) -> Response:
     """Makes an edit: the answer. Raises `Refused`."""
     line, reason = edit_of(body, given.get("content-type", "application/json"), why)
-    said = said_by(name, reason, key_of(given.get("idempotency-key")))
+    said = said_of(name, reason, key_of(given.get("idempotency-key")))
     at = vector_of(given.get("if-match") if given.get("if-match") != "*" else None, "If-Match")
     try:
         done = await place.edits.submit(line, said, at)
@@ -341,20 +347,18 @@ def _features(place: Place) -> APIRouter:
         number: Optional[str] = NUMBER,
         f: Optional[str] = FORM,
     ) -> Response:
-        page, versions = await place.features.page(request.query_params, place.base(request))
-        return _page(request, page.body, page.crs, versions)
+        return _page(request, await place.features.page(request.query_params, place.base(request)))
 
     @found.get("/collections/parcels/items/{featureId}", summary="A feature", responses=told_by(None, GEOJSON))
     async def item(request: Request, featureId: str, crs: Optional[str] = CRS, f: Optional[str] = FORM) -> Response:
         given: Mapping[str, str] = request.query_params
-        page, versions = await place.features.feature(_id(featureId), given, place.base(request))
-        return _page(request, page.body, page.crs, versions)
+        return _page(request, await place.features.feature(_id(featureId), given, place.base(request)))
 
     return found
 
 
-def _page(request: Request, body: Dict[str, Any], crs: str, versions: Vector) -> Response:
-    response = shown(request, body, "parcels", GEOJSON)
-    response.headers["gandovel-entries"] = text_of(versions)
-    response.headers["content-crs"] = f"<{crs}>"
+def _page(request: Request, page: Page) -> Response:
+    response = shown(request, page.body, "parcels", GEOJSON)
+    response.headers["gandovel-entries"] = text_of(page.versions)
+    response.headers["content-crs"] = f"<{page.crs}>"
     return response

@@ -1,11 +1,10 @@
 """OGC API Features: the collections of a register, each in any version that is kept."""
 from __future__ import annotations
 
-import json
-from dataclasses import dataclass, replace
+from dataclasses import replace
 from datetime import datetime, timezone
 from functools import partial
-from typing import Any, Dict, List, Mapping, Optional, Sequence
+from typing import Any, Dict, List, Optional, Sequence
 
 import numpy as np
 
@@ -29,15 +28,6 @@ _RELATIONS = "http://www.opengis.net/def/rel/ogc/1.0"
 MVT = "application/vnd.mapbox-vector-tile"
 TRIES = 30
 """Seconds that overlaps wait until their version is published."""
-
-
-@dataclass(frozen=True)
-class Page:
-    """A page of features, or a feature, as an object: what those take who join the pages of several registers."""
-
-    body: Dict[str, Any]
-    entries: int
-    crs: str
 
 
 class Collections:
@@ -219,20 +209,6 @@ class Collections:
 
     def _zone_text(self, row: Row) -> bytes:
         return kept_text(row, "zone", self._zone_properties)
-
-    async def page(self, name: str, given: Mapping[str, str], base: str) -> Page:
-        """A page of features as an object, as `Items.page`."""
-        from .items import Items
-
-        found = await Items(self._register, self).page(name, given, base)
-        return Page(json.loads(found.content), found.entries, found.crs)
-
-    async def feature(self, name: str, number: str, given: Mapping[str, str], base: str) -> Page:
-        """One feature as an object, as `Items.feature`."""
-        from .items import Items
-
-        found = await Items(self._register, self).feature(name, number, given, base)
-        return Page(json.loads(found.content), found.entries, found.crs)
 
     def test(self, name: str) -> None:
         """Tests that there is such a collection. Raises `NoSuchThing`."""

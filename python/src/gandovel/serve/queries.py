@@ -40,7 +40,7 @@ class Asked:
     """Which features are asked for, and in which order, in the request's own words."""
 
     @classmethod
-    def of(cls, given: Mapping[str, str], register: Register, kinds: Mapping[str, Any] = {}) -> "Asked":
+    def of(cls, given: Mapping[str, str], register: Register, kinds: Mapping[str, Mapping[str, Any]]) -> "Asked":
         """Reads them, for a collection whose properties have these schemas. Raises `BadRequest`."""
         projection = register.layer.projection
         area = None
@@ -129,10 +129,3 @@ def whole(given: Mapping[str, str], name: str, otherwise: int, least: int) -> in
     if not re.fullmatch("[0-9]{1,15}", text) or int(text) < least:
         raise BadRequest(name, f"{name} is a whole number from {least}")
     return int(text)
-
-
-def only(given: Mapping[str, str], names: Any) -> None:
-    """Tests that a request has no parameters but these. Raises `BadRequest`."""
-    for name in given:
-        if name not in names:
-            raise BadRequest("parameter", f"{name[:40]} is no parameter here: there are {', '.join(sorted(names))}")

@@ -12,7 +12,7 @@ from ..entries import Asked
 from ..faults import words_of
 from ..models import DraftSeen, DraftsTold, EntryTold, Refusal, told_by
 from ..site import Site, versioned
-from .edits import ANSWERS, body_of, edit_told, made, said_by
+from .edits import ANSWERS, body_of, edit_told, made, said_of
 from .parameters import SITE, DirectRoute, parameter, site_of
 
 _BODY = {"parameters": [parameter("why", "string", "the reason")], "requestBody": edit_told()["requestBody"]}
@@ -33,7 +33,7 @@ async def keep(request: Request) -> Response:
     """An edit as `POST /edits` takes it, that could be made now. The answer has it as it would be."""
     site = site_of(request)
     line, reason = await body_of(request)
-    said_by(request.state.client.name, _reason(reason, request.state.client.name), "draft-" + "0" * 16)
+    said_of(request.state.client.name, _reason(reason, request.state.client.name), "draft-" + "0" * 16)
     draft, seen = await site.drafts.keep(line, reason, request.state.client.name)
     return versioned(_seen(site, draft, seen, None), seen.entries)
 
@@ -67,9 +67,9 @@ async def approve(request: Request, draftId: str, site: Site = SITE) -> Response
     name, key = request.state.client.name, f"draft-{draftId}"
     known = site.register.published.keys.get((name, key))
     if known is not None:  # its answer was lost
-        return await made(site, site.register.submit(Asked(known.edit, said_by(name, known.why, key))))
+        return await made(site, site.register.submit(Asked(known.edit, said_of(name, known.why, key))))
     found = site.drafts.find(draftId)
-    said = said_by(name, _reason(found.why, found.who), key)
+    said = said_of(name, _reason(found.why, found.who), key)
     return await made(site, site.drafts.approve(found, Asked(found.edit, said)))
 
 

@@ -4,7 +4,7 @@ from __future__ import annotations
 import re
 from typing import Any, Awaitable, Dict, Optional, Tuple
 
-from fastapi import APIRouter, Query, Request
+from fastapi import APIRouter, Request
 from fastapi.responses import Response
 from pydantic import schema_of
 
@@ -28,7 +28,6 @@ ANSWERS = {
     **told_by(EntryTold, text="the entry: with its digest, it is the clerk's receipt"),
     **{it: {"model": Refusal, "description": text} for it, text in _REFUSED.items()},
 }
-WHY = Query(None, description="the reason, where the body is text/plain")
 router = APIRouter(tags=["Register"], route_class=DirectRoute)
 
 
@@ -50,7 +49,7 @@ async def edit(request: Request) -> Response:
     """An edit as JSON, or a line of a clerk's file as text/plain. 200 comes once the journal has it on the disk."""
     line, reason = await body_of(request)
     site, given = site_of(request), request.headers
-    asked = Asked(line, said_by(request.state.client.name, reason, key_of(given.get("idempotency-key"))))
+    asked = Asked(line, said_of(request.state.client.name, reason, key_of(given.get("idempotency-key"))))
     return await made(site, site.register.submit(asked, at_of(given.get("if-match"))))
 
 
@@ -88,7 +87,7 @@ def key_of(text: Optional[str]) -> Optional[str]:
     raise BadRequest("Idempotency-Key", "a key is 1 to 100 signs of ASCII without a space")
 
 
-def said_by(name: str, why: str, key: Optional[str]) -> Said:
+def said_of(name: str, why: str, key: Optional[str]) -> Said:
     """What the journal's record has of a client. Raises `BadRequest`."""
     said = Said(name, why, key)
     size = len(said.word.encode())
