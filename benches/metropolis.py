@@ -9,6 +9,9 @@ of so many parcels by 10 cm, away from its neighbours. FOLDER gets parcels.gpkg 
 printed. --report runs `gandovel report` on them (the program is what GANDOVEL_TOOL names), and prints its seconds by
 the clock, the processors' seconds, the most memory that all its processes had at once and one of them alone, and the
 verdict. Say it for three sizes, for the growth.
+
+--serve N cuts it into districts of N parcels at most, and serves these: the seconds of `prepare`, from the start to the
+first answer, until all districts are awake, of a recut, and the most memory that all processes have then.
 """
 import argparse
 import json
@@ -112,6 +115,60 @@ def measure(folder):
     )
 
 
+def serve(folder, most):
+    """Cuts the layer into districts and serves them; prints what it took."""
+    import urllib.request
+
+    sources = os.path.join(os.path.dirname(os.path.abspath(__file__)), "..", "python", "src")
+    environment, layer = {**os.environ, "PYTHONPATH": sources}, os.path.join(folder, "layer")
+    command = [sys.executable, "-m", "gandovel"]
+    files = [os.path.join(folder, "parcels.gpkg"), "--zones", os.path.join(folder, "zones.gpkg"), "--out", layer]
+    begun = time.monotonic()
+    subprocess.run([*command, "prepare", *files, "--parcels-a-district", str(most)], check=True, env=environment)
+    print(f"prepare: {time.monotonic() - begun:.1f} s")
+    with tempfile.TemporaryDirectory() as journals:
+        begun = time.monotonic()
+        words = [*command, "serve", layer, "--journal", journals, "--port", "0", "--awake", "100000"]
+        server = subprocess.Popen(words, stdout=subprocess.PIPE, text=True, env=environment)
+        try:
+            address = server.stdout.readline().split(" at ")[1].strip().rstrip("/")
+
+            def asked(path, line=None):
+                request = urllib.request.Request(address + path, line and line.encode(), {"Content-Type": "text/plain"})
+                with urllib.request.urlopen(request) as answer:
+                    return json.load(answer)
+
+            asked(f"/locate?x={X0 * 10 + 5 * PITCH}&y={Y0 * 10 + 5 * PITCH}")
+            print(f"first answer: {time.monotonic() - begun:.1f} s")
+            districts = [it["district"] for it in asked("/districts")["districts"]]
+            for district in districts:
+                asked(f"/parcels/{district * 1_000_000_000 + 1}")
+            print(f"{len(districts)} districts awake: {time.monotonic() - begun:.1f} s")
+            print(f"memory of all: {sum(map(share_of_memory, family(server.pid))) / 1048576:.2f} GiB")
+            one, other = across(asked)
+            begun = time.monotonic()
+            asked("/edits", f"merge {one} {other}")
+            print(f"a merge over a border: {time.monotonic() - begun:.1f} s")
+        finally:
+            server.terminate()
+            server.wait()
+
+
+def across(asked):
+    """Two parcels of two districts that have a side in common."""
+    offset, edges = 0, {}
+    while True:
+        parcels = asked(f"/parcels?limit=1000&offset={offset}")["parcels"]
+        for it in parcels:
+            ring = [tuple(corner) for corner in it["ring_mm"]]
+            for a, b in zip(ring, ring[1:] + ring[:1]):
+                edges[a, b] = it["id"]
+                other = edges.get((b, a), it["id"])
+                if other // 1_000_000_000 != it["id"] // 1_000_000_000:
+                    return it["id"], other
+        offset += len(parcels)
+
+
 def most_memory(process):
     """Waits for a process: the most memory, in GiB, that it and those that it started had at once, looked at each
     second.
@@ -151,11 +208,14 @@ def main():
     for name, value in (("columns", 1024), ("rows", 1024), ("zone-side", 20), ("seed", 1), ("gaps", 0)):
         parser.add_argument(f"--{name}", type=int, default=value)
     parser.add_argument("--report", action="store_true")
+    parser.add_argument("--serve", type=int, metavar="N")
     given = parser.parse_args()
     wrong = make(given.folder, given.columns, given.rows, given.zone_side, given.seed, given.gaps)
     print(json.dumps({"parcels": given.columns * given.rows, "moved": wrong}))
     if given.report:
         measure(given.folder)
+    if given.serve:
+        serve(given.folder, given.serve)
 
 
 if __name__ == "__main__":

@@ -9,6 +9,7 @@ prepare` wrote), and prints one line for each:
 edits    edits a second of the clerks, each with a connection and a key, and of as many clerks at the pipes of a session
 alone    `locate` a second by wrk on --connections (16), and its 99th percentile, while nobody edits
 locate   the same while eight clerks edit
+pages    milliseconds of a processor that a page of 1,000 features takes of the server, whose parts were made before
 mixed    readers (pages of features, parcels, locate) and clerks at once for --mixed seconds (600 for a figure, 0: not):
          answers by status, and memory. Status 1 where one is neither 200 nor a reason that docs/serve.md tells
 
@@ -280,6 +281,22 @@ def located(served: Served, rings: Any, seconds: int, folder: Path, clerks: int,
     return f"{rate} a second, p99 {slowest}{beside} ({spent}{', edits in it' if clerks else ''}){wrong}"
 
 
+def pages(served: Served, count: int) -> str:
+    """What a page of 1,000 features costs, made anew and of parts that are there."""
+    session, address = requests.Session(), served.address + "/collections/parcels/items?limit=1000"
+    session.headers["Accept-Encoding"] = "identity"
+    told = []
+    for name, paths in (
+        ("at first", [f"{address}&offset={1000 * at}" for at in range(count)]),
+        ("after that", [f"{address}&offset={1000 * at}" for at in range(count)]),
+    ):
+        before = served.seconds()[0]
+        sizes = [len(session.get(path, timeout=600).json()["features"]) for path in paths]
+        spent = 1000 * (served.seconds()[0] - before) / sum(size == 1000 for size in sizes)
+        told.append(f"{spent:.1f} ms {name}")
+    return ", ".join(told)
+
+
 def mixed(served: Served, rings: Any, seconds: float, clerks: int, readers: int) -> Counter[Any]:
     """How many answers of each kind and status clerks and readers had that asked at once."""
     told: Counter[Any] = collections.Counter()
@@ -315,6 +332,7 @@ def main() -> None:
         )
         print(f"alone    {located(served, rings, given.seconds, folder, 0, given.connections)}", flush=True)
         print(f"locate   {located(served, rings, given.seconds, folder, 8, given.connections)}", flush=True)
+        print(f"pages    {pages(served, 10)}", flush=True)
         if not given.mixed:
             served.end()
             return

@@ -227,7 +227,7 @@ def test_numbers_of_districts(tmp_path):
 
 
 PLANTED = {
-    "exchanged": ("does not tile: 1 of 3 districts tile; not d1 (H2), d0 (H2); parcel record 1 crosses", 1),
+    "exchanged": ("all parcels tile, and the filing is wrong: the edges of d0, d1 cancel one another: parcel rec", 1),
     "moved": ("does not tile: 2 of 3 districts tile; not d1 (H2); parcel record 2 crosses districts d1 and d2", 1),
     "a centimetre in the layer of districts": ("does not tile: the layer of districts does not (H2); 2 of 3", 1),
     "doubled": ("does not tile: 2 of 3 districts tile; not d1 (H2); parcel record 1 crosses districts d1 and d0", 1),
@@ -260,7 +260,7 @@ def test_planted_faults_of_districts(tmp_path, kind):
     (whole,) = summary.wholes
     said, status = PLANTED[kind]
     assert whole.said.startswith(said) and summary.status == status, whole.said
-    assert (summary.gaps + summary.overlaps > 0) == (status == 1)
+    assert (summary.gaps + summary.overlaps > 0) == (whole.kind == "refused")
     assert (summary.crossings > 0) == ("crosses" in said)
 
 

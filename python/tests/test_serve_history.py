@@ -2,6 +2,7 @@
 too."""
 from __future__ import annotations
 
+import hashlib
 import time
 
 import geopandas as gpd
@@ -161,3 +162,42 @@ def test_all_days_are_there_after_a_start(served):
     served.kill()
     served.options = options
     served.start()
+
+
+def test_answers_tell_what_proves_them(served):
+    """The digest of each entry, by SHA-256 of the chain up to it: in the list, in histories and in lineages."""
+    header, *lines = served.journal.read_bytes().rstrip(b"\n").split(b"\n")
+    digest = layer = header.rpartition(b" ")[2]
+    digests = []
+    for stamp, edit in zip(lines[::2], lines[1::2]):
+        digest = hashlib.sha256(digest + stamp[:-64] + edit + b"\n").hexdigest().encode()
+        digests.append(digest.decode())
+    body = served.ask("/entries").json()
+    assert [it["digest"] for it in body["records"]] == digests and len(digests) == 5
+    proof = {"layer": layer.decode(), "entries": 5, "digest": digests[-1]}
+    assert body["proof"] == proof
+    for parcel, numbers in ((3, [1]), (7, [1, 4]), (11, [3])):
+        told = served.ask(f"/parcels/{parcel}/history").json()
+        assert [it["digest"] for it in told["history"]] == [digests[at - 1] for at in numbers] and told[
+            "proof"
+        ] == proof
+    told = {it["id"]: it for it in served.ask("/parcels/12/lineage").json()["parcels"]}
+    assert told[12]["made_by"]["digest"] == digests[3] and told[3]["taken_by"]["digest"] == digests[0]
+
+
+def test_a_change_of_corners_is_no_lineage(served):
+    """A corner that is put in leaves both parcels what they are: no parcel was made or taken out."""
+    line = f"insert {at(0, 10)} {at(10, 10)} {at(5, 10)}"
+    answer = served.edit(line, **{"Idempotency-Key": "corner"})
+    entry = answer.json()
+    assert answer.status_code == 200 and entry["out"] == entry["new"] and len(entry["out"]) == 2, pretty(answer)
+    assert served.edit(line, **{"Idempotency-Key": "corner"}).json() == entry
+    assert served.ask("/entries?after=5").json()["records"] == [entry] and len(entry["digest"]) == 64
+    for parcel in entry["out"]:
+        known = {it["id"]: it for it in served.ask(f"/parcels/{parcel}/lineage").json()["parcels"]}
+        assert (known[parcel]["taken_by"], known[parcel]["replaced_by"]) == (None, [])
+        assert served.ask(f"/parcels/{parcel}/history").json()["history"][-1] == entry
+    everything = served.ask("/collections/history/items?limit=1000").json()["features"]
+    assert sorted(it["id"] for it in everything) == list(range(1, 15))
+    there = {it["id"]: it["properties"] for it in everything}
+    assert all(there[parcel]["until"] is None for parcel in entry["out"])

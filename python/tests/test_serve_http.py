@@ -25,7 +25,8 @@ OAI = json.loads((Path(__file__).parent / "openapi_3.0_schema.json").read_text()
 ADDRESSES = ["/", "/conformance", "/api", "/collections", "/collections/parcels", "/collections/parcels/items"]
 ADDRESSES += ["/collections/parcels/items/66", "/collections/parcels/schema", "/collections/parcels/queryables"]
 ADDRESSES += ["/collections/zones/feature-schema", "/parcels", "/parcels/66", "/parcels/1/history", "/parcels/4/zones"]
-ADDRESSES += ["/overlay", "/entries", "/health", "/page/register.js", "/page/map/leaflet.css"]
+ADDRESSES += ["/overlay", "/entries", "/health", "/page/register.js", "/page/map/leaflet.css", "/tileMatrixSets"]
+ADDRESSES += ["/collections/parcels/tiles/WebMercatorQuad", "/styles", "/styles/zones", "/parcels/66/lineage"]
 
 
 @pytest.fixture(scope="module")
@@ -76,6 +77,14 @@ def test_answers_are_as_they_are_defined(served):
         ("/overlay", "GET", {}, "Overlay"),
         ("/entries", "GET", {}, "Entries"),
         ("/health", "GET", {}, "Health"),
+        ("/parcels/66/lineage", "GET", {}, "Lineage"),
+        ("/?f=json", "GET", {}, "Landing"),
+        ("/conformance", "GET", {}, "Conformance"),
+        ("/collections", "GET", {}, "Collections"),
+        ("/collections/split", "GET", {}, "Collection"),
+        ("/collections/history/schema", "GET", {}, "Schema"),
+        ("/collections/history/items?limit=20", "GET", {}, "FeatureCollection"),
+        ("/collections/zones/items/1", "GET", {}, "Feature"),
         ("/parcels/1", "GET", {}, "Refusal"),
         ("/edits", "POST", {"json": {"kind": "merge", "one": 1, "other": 5}}, "Refusal"),
         ("/locate", "POST", {"json": {"points": [[1.5, 2]]}}, "Refusal"),
@@ -115,7 +124,7 @@ def test_features_are_as_their_schema_says(served):
         flat = served.ask(urlsplit(links["http://www.opengis.net/def/rel/ogc/1.0/schema"]["href"]).path).json()
         assert set(flat["properties"]) == {*features[0]["properties"], "geometry"}
         asked = served.ask(urlsplit(links["http://www.opengis.net/def/rel/ogc/1.0/queryables"]["href"]).path).json()
-        assert set(asked["properties"]) == {"number"} and asked["additionalProperties"] is False
+        assert asked["properties"] == flat["properties"] and asked["additionalProperties"] is False
 
 
 @pytest.mark.parametrize("path", ADDRESSES)
@@ -282,6 +291,7 @@ WORDS += [
     "%0d%0a",
 ]
 NAMES = ["bbox", "bbox-crs", "limit", "offset", "entries", "crs", "f", "x", "y", "after", "number", "why", "datetime"]
+NAMES += ["filter", "filter", "filter", "filter-lang", "filter-crs", "sortby", "properties", "box"]
 VALUES = ["http://www.opengis.net/def/crs/EPSG/0/3857", "http://www.opengis.net/def/crs/OGC/1.3/CRS84", "-1e308"]
 VALUES += [
     "-180,-90,180,90",
@@ -293,6 +303,26 @@ VALUES += [
     "2026-01-01",
 ]
 VALUES += ["0001-01-01T00:00:00+23:59", "9999-12-31T23:59:59-23:59", "9999-12-31T23:59:60Z", "html", "json", "١٢", "²"]
+VALUES += ["number = 'A1' AND NOT area_m2 > 1e3", "S_INTERSECTS(geometry, BBOX(1, 2, 3))", "(" * 99, "NOT " * 99]
+VALUES += [
+    "S_INTERSECTS(geometry, POINT(1e300 -1e300))",
+    '{"op":"and","args":[]}',
+    "cql2-json",
+    "cql2-text",
+    "'",
+    "id=1e999",
+]
+VALUES += [
+    '{"op":"=","args":[{"property":"id"},1e400]}',
+    '{"op":"s_intersects","args":[{"property":"geometry"},{"bbox":[]}]}',
+]
+VALUES += [
+    "since > TIMESTAMP('0001-01-01T00:00:00Z')",
+    "DATE('2026-02-30') = until",
+    "-area_m2,number",
+    "qml",
+    "mapbox",
+]
 BODIES = ['{"kind": %s}', '{"kind":"merge","one":%s,"other":%s}', '{"points":%s}', '{"points":[[%s,%s]]}', "%s", "[%s]"]
 BODIES += ['{"kind":"line","line":%s}', '{"kind":"split","parcel":%s,"path":[[%s,1],[2,3]],"why":%s}']
 PLACES = [
@@ -307,6 +337,11 @@ PLACES = [
     "/",
     "/page",
     "/metrics",
+    "/collections/parcels/items",
+    "/collections/history/items",
+    "/collections/parcels/tiles",
+    "/collections/zones/tiles/WebMercatorQuad",
+    "/styles",
 ]
 
 

@@ -238,9 +238,9 @@ def test_an_answer_is_found_in_the_journal(tmp_path):
         asked = [("bert", "merge 3 4", 0), ("bert", "merge 3 4", 2), ("anna", "merge 1 2", 0), ("bert", "merge 1 2", 1)]
         sent = [Fate(Asked(line, Said(who)), after) for who, line, after in asked]
         sent.append(Fate(Asked("merge 1 2", Said("anna", "why", "a")), 0))
-        register._fates = set(sent)
-        register._accept(3)  # an answer to the third is the first that comes
-        register._take_in(register._tail.records)
+        register.submissions.fates = set(sent)
+        register.accept(3)  # an answer to the third is the first that comes
+        register.take_in(register._tail.records)
         return [await fate.number for fate in sent]
 
     assert asyncio.run(fates()) == [2, None, None, 3, 1]
@@ -286,16 +286,16 @@ class Follower:
 def opened(journal, told):
     """A register whose follower has parcels 1 to 6, and that took three merges; the session told the ids of these."""
     register, square = Register(SimpleNamespace(follow=lambda entry: None), journal), np.array([[0, 0], [1, 0], [1, 1]])
-    register.state, register._follower = "serving", Follower()
+    register.state, register.follower.program = "serving", Follower()
     register.versions.begin(0, [(parcel, 0, 1, square) for parcel in range(1, 7)])
-    register._accepted = {
+    register.follower.accepted = {
         at: Entry(at, f"merge {at} {at + 3}", (), (), "anna", "", "2026-01-01T00:00:00Z", None) for at in (1, 2, 3)
     }
-    register._told = {
+    register.follower.told = {
         at: (Accepted(at, (at, at + 3), (at + 6,)), f"ok {at} out {at} {at + 3} new {at + 6}".encode()) for at in told
     }
     register.acknowledged = 3
-    return register, register._follower
+    return register, register.follower.program
 
 
 def test_the_follower_is_not_waited_for_edit_by_edit(tmp_path):
@@ -304,7 +304,7 @@ def test_the_follower_is_not_waited_for_edit_by_edit(tmp_path):
 
     async def followed():
         register, follower = opened(tmp_path, (1, 2))
-        task, shown = asyncio.create_task(register._follow()), asyncio.create_task(register.shown())
+        task, shown = asyncio.create_task(register.follower.follow()), asyncio.create_task(register.shown())
         await asyncio.sleep(0)
         sent = ["merge 1 4", "parcel 7", "merge 2 5", "parcel 8", "merge 3 6"]
         assert follower.lines == sent
@@ -316,7 +316,7 @@ def test_the_follower_is_not_waited_for_edit_by_edit(tmp_path):
             text = ok if kind == "merge" else f"parcel 3 {number} 2 0 0 1 0 1 1"
             follower.answers[at].set_result([text.encode()])
         await task
-        assert follower.lines == [*sent, "parcel 9"] and await shown == 3 and not register._told
+        assert follower.lines == [*sent, "parcel 9"] and await shown == 3 and not register.follower.told
         assert [(it.number, it.out, it.new) for it in register.entries] == [
             (k, (k, k + 3), (k + 6,)) for k in (1, 2, 3)
         ]
@@ -329,7 +329,7 @@ def test_the_follower_is_not_waited_for_edit_by_edit(tmp_path):
 def test_a_follower_that_tells_other_ids_is_not_believed(tmp_path):
     async def followed():
         register, follower = opened(tmp_path, (1,))
-        task = asyncio.create_task(register._follow())
+        task = asyncio.create_task(register.follower.follow())
         await asyncio.sleep(0)
         follower.answers[0].set_result([b"ok 1 out 1 4 new 8"])
         with pytest.raises(gandovel.BadAnswer):

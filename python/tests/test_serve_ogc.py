@@ -1,4 +1,5 @@
-"""OGC API Features, Parts 1 and 2, by the abstract tests of the standard: each test here has their identifiers."""
+"""OGC API Features, Parts 1 and 2, by the abstract tests of the standard: each test here has their identifiers. Part 3
+and the tiles have files of their own."""
 from __future__ import annotations
 
 from datetime import datetime, timedelta, timezone
@@ -118,7 +119,9 @@ def test_conformance(served):
     """/conf/core/conformance-op, conformance-success."""
     told = set(served.ask("/conformance").json()["conformsTo"])
     classes = {f"{PART1}/conf/{name}" for name in ("core", "oas30", "html", "geojson")}
-    assert told == classes | {f"{PART2}/conf/crs"}
+    assert classes | {f"{PART2}/conf/crs"} <= told
+    others = {it for it in told if not it.startswith((PART1, PART2))}
+    assert all("ogcapi-features-3/1.0" in it or "/cql2/1.0" in it or "ogcapi-tiles-1/1.0" in it for it in others)
 
 
 def test_collections(served):

@@ -242,3 +242,157 @@ def test_on_a_phone_and_without_a_token(served, browser, tmp_path):
     assert wide[0] <= wide[1]
     for name in ("map", "tools", "parcel"):
         assert browser.find_element("id", name).size["width"] > 200
+
+
+def test_a_keyboard_alone_makes_an_edit(served, browser):
+    """Corners and neighbours are chosen from lists, a bearing is typed; each control has a name for a screen reader."""
+    from selenium.webdriver import Keys
+    from selenium.webdriver.support.ui import Select
+
+    window = Window(browser, served.address)
+    ring = [tuple(it) for it in served.ask("/parcels/8").json()["ring_mm"]]
+    window.type("number", "A8" + Keys.ENTER)
+    until(lambda: "A8" in window.text("parcel").splitlines()[0])
+    nameless = (
+        "return [...document.querySelectorAll('button, input, select')].filter((it) => !(it.innerText || it.labels"
+    )
+    assert browser.execute_script(f"{nameless} && it.labels.length || it.ariaLabel)).map((it) => it.id)") == []
+    browser.find_element("css selector", '[data-tool="split"]').send_keys(Keys.ENTER)
+    window.type("place", "@45.5 20" + Keys.ENTER)
+    assert window.text("answer").startswith("A bearing begins in a corner")
+    browser.find_element("id", "place").clear()
+    Select(browser.find_element("id", "corner")).select_by_index(0)
+    browser.find_element("id", "take-corner").send_keys(Keys.ENTER)
+    for text, east, north in (
+        ("@90 2", 2000, 0),
+        ("@ 0, 1.5", 0, 1500),
+        ("@100g 0.5", 500, 0),
+        ("@45 30 0 2", 1427, 1402),
+    ):
+        before = browser.execute_script("return register.draft.path.at(-1)")
+        window.type("place", text + Keys.ENTER)
+        after = browser.execute_script("return register.draft.path.at(-1)")
+        assert [b - a for a, b in zip(before, after)] == [east, north], text
+        assert "rounded to the millimetre" in window.text("answer")
+    for text in ("@361 2", "@45 61 0 2", "@x 2", "@45"):
+        window.type("place", text + Keys.ENTER)
+        assert window.text("answer") and "rounded" not in window.text("answer"), text
+        browser.find_element("id", "place").clear()
+    for _ in range(4):
+        browser.find_element("id", "undo").send_keys(Keys.ENTER)
+    Select(browser.find_element("id", "corner")).select_by_index(2)
+    browser.find_element("id", "take-corner").send_keys(Keys.ENTER)
+    until(lambda: window.text("reason") == "It can be sent.")
+    browser.find_element("id", "send").send_keys(Keys.ENTER)
+    until(lambda: window.text("answer").startswith("Done: entry"))
+    assert served.lines()[-1] == f"split 8 {ring[0][0]} {ring[0][1]} {ring[2][0]} {ring[2][1]}"
+
+    window.type("number", Keys.CONTROL + "a")
+    window.type("number", "A7" + Keys.ENTER)
+    until(lambda: "A7" in window.text("parcel").splitlines()[0])
+    browser.find_element("css selector", '[data-tool="merge"]').send_keys(Keys.ENTER)
+    told = {it.get_attribute("value") for it in Select(browser.find_element("id", "neighbour")).options}
+    model = replayed(CITY, RINGS, served.lines())
+    edges = lambda one: {frozenset(it) for it in zip(model.rings[one], model.rings[one][1:] + model.rings[one][:1])}
+    assert told and {int(it) for it in told} <= {it for it in model.rings if it != 7 and edges(it) & edges(7)}
+
+
+def test_zones_are_drawn_and_a_click_snaps(served, browser):
+    window = Window(browser, served.address)
+    until(lambda: browser.execute_script("return drawing.parcels.features('zones').length") == 2)
+    ends = browser.execute_script("return drawing.parcels.features('zones').map((it) => it.box)")
+    box = browser.execute_script("return register.settings.box_mm.map((it) => it / 1000)")
+    for side in (0, 1):
+        assert min(it[side] for it in ends) == pytest.approx(0, abs=1e-3)
+        assert max(it[side + 2] for it in ends) == pytest.approx(box[side + 2] - box[side], abs=1e-3)
+    corner = moved(RINGS[11])[0]
+    script = "const [x, y] = arguments[0], [k] = arguments[1]; return drawing.snapped([x + k, y + k])"
+    pixel = browser.execute_script("return 1000 / drawing.parcels.scale()")
+    assert browser.execute_script(script, list(corner), [round(3 * pixel)]) == list(corner)
+    assert browser.execute_script("return drawing.snapped(arguments[0].map((it) => it - 1e6))", list(corner)) is None
+
+
+def test_a_parcel_is_printed(served, browser):
+    """Its corners, bearings and distances, and the digest of the entry that made it."""
+    window = Window(browser, served.address)
+    window.choose("A8")
+    browser.execute_script("window.print = () => { window.printed = $('sheet').innerText; };")
+    window.press("#print")
+    text = until(lambda: browser.execute_script("return window.printed || ''"))
+    number = int(browser.execute_script("return register.chosen"))
+    made = served.ask(f"/parcels/{number}/lineage").json()
+    digest = {it["id"]: it for it in made["parcels"]}[number]["made_by"]["digest"]
+    assert digest in text and "exact" in text and "measured" in text
+    for x, y in served.ask(f"/parcels/{number}").json()["ring_mm"]:
+        assert f"{x // 1000}.{x % 1000:03d}" in text and f"{y // 1000}.{y % 1000:03d}" in text
+    assert not browser.find_element("id", "sheet").is_displayed()
+
+
+def test_a_large_register_is_loaded_by_what_is_seen(served, browser):
+    """Squares that are seen are loaded, each once; a number is found wherever it is."""
+    window = Window(browser, served.address)
+    count = len(window.drawn())
+    browser.execute_script(
+        "cells.most = 5; cells.asked = 0; register.follow = () => {};"
+        "const load = cells.load; cells.load = (it) => { cells.asked++; return load(it); };"
+    )
+    browser.execute_script("register.load().then(() => { window.isLoaded = true; })")
+    until(lambda: browser.execute_script("return window.isLoaded"))
+    assert browser.execute_script("return cells.side") > 0
+    browser.execute_script(
+        "register.parcels.clear(); drawing.parcels.setLayer('parcels', []); cells.loaded.clear(); cells.asked = 0;"
+        "const box = register.settings.box_mm; cells.side = Math.ceil((box[2] - box[0]) / 12);"
+        "drawing.showPlace(cells.first(box), 0.95)"
+    )
+    until(lambda: browser.execute_script("return cells.asked") > 0 and 0 < len(window.drawn()))
+    assert len(window.drawn()) < count and f"{count} parcels" in window.text("state")
+    window.choose("A13")
+    until(lambda: 13 in window.drawn())
+    browser.execute_script("drawing.showPlace(register.settings.box_mm, 0.2)")
+    until(lambda: window.text("far").startswith("Come nearer"))
+
+
+def test_a_base_map_is_below_the_parcels(tmp_path, browser):
+    """Its pictures are asked for in the register's projection, and the policy lets them in."""
+    options = "--base-map", "http://127.0.0.1:9/wms?layers=photo"
+    with Served(prepared(tmp_path / "work", CITY, RINGS), tmp_path / "register.txt", *options) as served:
+        assert " http://127.0.0.1:9;" in served.ask("/?f=html").headers["content-security-policy"]
+        window = Window(browser, served.address)
+        window.here()
+        found = until(
+            lambda: browser.execute_script("return [...document.querySelectorAll('#map img')].map((it) => it.src)")
+        )
+        query = dict(it.split("=") for it in found[0].partition("?")[2].split("&"))
+        assert query["layers"] == "photo" and query["srs"] == "EPSG%3A25832" and query["request"] == "GetMap"
+        west, south, east, north = map(float, query["bbox"].split("%2C"))
+        box = [it / 1000 for it in served.ask("/settings").json()["box_mm"]]
+        assert (
+            west < box[2]
+            and east > box[0]
+            and south < box[3]
+            and north > box[1]
+            and east - west == pytest.approx(north - south)
+        )
+
+
+def test_a_draft_is_kept_seen_and_dropped(served, browser):
+    """It is drawn and told as it would be; its own clerk can't approve it; the journal has none of it."""
+    window, before = Window(browser, served.address), served.lines()
+    ring = served.ask("/parcels/14").json()["ring_mm"]
+    window.choose("A14")
+    window.press('[data-tool="split"]')
+    window.click_place(ring[0])
+    window.click_place(ring[2])
+    until(lambda: window.text("reason") == "It can be sent.")
+    window.press("#keep")
+    until(lambda: window.text("answer").startswith("Kept as a draft. It would bring "))
+    assert "split of A14 by local" in window.text("kept") and "m²" in window.text("answer")
+    see, approve, drop = browser.find_elements("css selector", "#kept button")
+    see.click()
+    until(lambda: browser.execute_script("return drawing.draft.getLayers().length") == 2)
+    assert window.text("answer").startswith("It would bring ")
+    approve.click()
+    until(lambda: "another clerk has to approve it" in window.text("answer"))
+    browser.find_elements("css selector", "#kept button")[2].click()
+    until(lambda: window.text("kept") == "")
+    assert served.lines() == before and served.ask("/drafts").json() == {"drafts": []}

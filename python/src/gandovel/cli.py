@@ -12,7 +12,7 @@ from typing import TYPE_CHECKING, Any, Callable, Dict, List, Optional
 from . import __version__
 from .errors import Refused
 from .explain_command import add_explain, run_explain
-from .large.options import add_options, cut_as_told
+from .large.options import add_cut, add_options, cut_as_told
 from .live.journal_command import add_journal, run_journal
 from .many.command import add_command, run_command
 from .program.apply_command import add_apply, run_apply
@@ -71,6 +71,7 @@ def parser() -> argparse.ArgumentParser:
     prepare.add_argument("source", metavar="PARCELS", help="the parcels: whatever GDAL reads")
     preparing(prepare)
     prepare.add_argument("--out", required=True, metavar="FOLDER", help="the folder to write")
+    add_cut(prepare)
     _add_questions(commands)
     mend = commands.add_parser("mend", help="the parcels without their slivers, as a GeoPackage")
     mend.add_argument("source", metavar="FOLDER|PARCELS", help="what prepare wrote, or the parcels' layer")
@@ -109,13 +110,23 @@ def _prepare(options: argparse.Namespace) -> int:
     try:
         prepared = prepared_of(options, progress)
         progress.step("writing")
-        prepared.save(options.out)
+        told = _saved(prepared, options)
     finally:
         progress.close()
     say_lost(prepared)
-    print(prepared.summary())
+    print(prepared.summary() + told)
     print(progress.end(), file=sys.stderr)
     return 0
+
+
+def _saved(prepared: Prepared, options: argparse.Namespace) -> str:
+    """Writes the folder, with its districts where it is to be cut: what more there is to say then."""
+    if options.most_in_district is None:
+        prepared.save(options.out)
+        return ""
+    from .metropolis.cut import save_metropolis
+
+    return f"; {save_metropolis(prepared, Path(options.out), options.most_in_district)}"
 
 
 def _report(options: argparse.Namespace) -> int:

@@ -24,6 +24,17 @@ def add_options(command: argparse.ArgumentParser) -> None:
     group.add_argument("--scheduler", metavar="ADDRESS", help="Dask's scheduler; without it, one on this machine")
 
 
+def add_cut(command: argparse.ArgumentParser) -> None:
+    """Adds the option by which `prepare` cuts a layer into districts that are edited."""
+    command.add_argument(
+        "--parcels-a-district",
+        dest="most_in_district",
+        metavar="N",
+        type=_rings,
+        help="cut into districts of at most N rings, for gandovel serve (docs/metropolis.md)",
+    )
+
+
 def _positive(word: str) -> int:
     number = int(word)
     if number < 1:

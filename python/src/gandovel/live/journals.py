@@ -70,13 +70,15 @@ def said_of(word: str) -> Said:
 
 @dataclass(frozen=True)
 class JournalRecord:
-    """An edit that a session accepted: its number from 1, its clerk, its time (UTC), who and why, and its line."""
+    """An edit that a session accepted: its number from 1, its clerk, its time (UTC), who and why, its line, and the
+    digest of the chain up to it."""
 
     number: int
     clerk: int
     time: datetime
     who: str
     edit: str
+    digest: str = ""
 
     @property
     def said(self) -> Said:
@@ -189,7 +191,7 @@ class Chain:
             raise self._changed()
         self.count, self.digest = self.count + 1, digest
         self.longest = max(self.longest, len(stamp) + len(edit) + 2)
-        return JournalRecord(self.count, int(found[2]), time, who, edit.decode("ascii"))
+        return JournalRecord(self.count, int(found[2]), time, who, edit.decode("ascii"), digest)
 
     def _changed(self) -> JournalRefused:
         return JournalRefused("changed", "", 2 * self.count + 2)

@@ -35,6 +35,11 @@ class Tail:
             self.close()
             raise
 
+    @property
+    def layer(self) -> str:
+        """SHA-256 of the layer, with which the chain begins."""
+        return self._chain.layer
+
     def read_to(self, number: int) -> None:
         """Reads on until there is a record with this number, which was answered. Raises `BadAnswer`,
         `JournalRefused`."""

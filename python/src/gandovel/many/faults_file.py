@@ -4,7 +4,7 @@ from __future__ import annotations
 import json
 from collections import defaultdict
 from pathlib import Path
-from typing import Any, Dict, List, Optional, Tuple
+from typing import Any, Dict, List, Optional, Sequence, Tuple
 
 import fiona
 import geopandas as gpd
@@ -14,6 +14,7 @@ from pyproj.exceptions import CRSError
 from shapely.affinity import scale
 from shapely.geometry import Polygon, shape
 
+from ..arrays import Array
 from ..faults.polygons import fault_area, faults_of
 from ..out.gpkg import write_layers
 from ..out.styles import STYLES
@@ -49,13 +50,18 @@ class Faults:
 
     def __init__(self) -> None:
         self.rows: Dict[Optional[str], Dict[str, List[Dict[str, Any]]]] = defaultdict(lambda: defaultdict(list))
+        self._covers: Dict[str, Tuple[Cover, Array]] = {}
+        """The parcels of districts beside a gap, and the box of their ring."""
 
     def count(self, kind: str) -> int:
         """How many `gaps`, `overlaps`, `rings` or `crossings` there are."""
         return sum(len(layers[kind]) for layers in self.rows.values())
 
-    def add(self, row: Row, result: Result) -> None:
-        """Takes the faults that a check of all faults told of a city's parcels or zones."""
+    def add(self, row: Row, result: Result, others: Sequence[Row] = ()) -> None:
+        """Takes the faults that a check of all faults told of a city's parcels or zones.
+
+        `others` are the districts of the same city: a gap on a border has the numbers of their parcels there, too.
+        """
         words = [line.split() for line in result.output.splitlines()]
         path = result.command[3]
         role = "zones" if path == row.zones and path != row.parcels else "parcels"
@@ -67,6 +73,9 @@ class Faults:
         layers, cover = self.rows[projection], Cover(row, path, role)
         for fault in faults_of(np.array(edges, dtype=np.int64).reshape(-1, 5)):
             records = cover.of(fault.outer, fault.holes, fault.depth < 0)
+            numbers = [cover.told(records)] if records else []
+            if fault.depth < 0 and role == "parcels":
+                numbers += self._beside(fault.outer, fault.holes, others)
             outer, *holes = (np.asarray(loop, dtype=float) / unit for loop in (fault.outer, *fault.holes))
             layers["gaps" if fault.depth < 0 else "overlaps"].append(
                 {
@@ -75,7 +84,7 @@ class Faults:
                     **fault_area(fault.area2),
                     "depth": fault.depth,
                     "records": ",".join(map(str, records)),
-                    "numbers": cover.told(records),
+                    "numbers": ",".join(numbers),
                     "numbers_how": "measured",
                     "geometry": Polygon(outer, holes),
                 }
@@ -93,6 +102,27 @@ class Faults:
                         "geometry": ring,
                     }
                 )
+
+    def _beside(self, outer: Sequence[Any], holes: Sequence[Any], others: Sequence[Row]) -> List[str]:
+        """The numbers of the parcels of other districts that border a gap, by district."""
+        loop = np.array(outer, dtype=np.int64)
+        found = []
+        for row in others:
+            cover, box = self._cover_of(row)
+            if (loop.min(axis=0) <= box[2:]).all() and (loop.max(axis=0) >= box[:2]).all():
+                records = cover.of(outer, holes, True)
+                found += [cover.told(records)] if records else []
+        return found
+
+    def _cover_of(self, row: Row) -> Tuple[Cover, Array]:
+        """A district's parcels, and the box that they are in, each read once."""
+        if row.name not in self._covers:
+            cover = Cover(row, row.parcels, "parcels")
+            low, high = cover.boxes[:, :2].min(axis=0, initial=2**62), cover.boxes[:, 2:].max(
+                axis=0, initial=-(2**62)
+            )
+            self._covers[row.name] = cover, np.concatenate([low, high])
+        return self._covers[row.name]
 
     def add_crossing(self, city: str, row: Row, it: Crossing) -> None:
         """Takes a parcel of a city's district that reaches into another one."""

@@ -2,6 +2,7 @@
 from __future__ import annotations
 
 import time
+from dataclasses import replace
 from pathlib import Path
 from typing import TYPE_CHECKING, Any, Callable, Dict, List, Optional, Sequence, Tuple
 
@@ -31,6 +32,7 @@ def summary_of(run: Run, rows: Sequence[Row], begun: float) -> Summary:
     except Refused as why:
         pairs, unwritten = ({}, {}), run.stopped or why
     layers = Layers(records, astray, *_numbers(run, rows, verdicts), _areas(run, rows), *pairs)
+    layers = replace(layers, misfiled=_misfiled(run, rows, verdicts))
     summary = Summary(list(verdicts.values()), wholes_of(rows, verdicts, layers), len(run.kept))
     summary.kept_names, summary.differing = frozenset(run.kept), _differing(run)
     summary.unwritten = unwritten
@@ -63,6 +65,15 @@ def _numbers(run: Run, rows: Sequence[Row], verdicts: Dict[str, Verdict]) -> "Tu
 
     shared = {name: shared_numbers(some) for name, some in below.items()}
     return shared, {name: crossings(some, refused) for name, some in below.items() if name not in refused}
+
+
+def _misfiled(run: Run, rows: Sequence[Row], verdicts: Dict[str, Verdict]) -> Dict[str, List[str]]:
+    """Cities that all parcels tile though districts do not: by each the districts with parcels of one another."""
+    if not any(row.part_of is not None and verdicts[row.name].code == "H2" for row in rows):
+        return {}
+    from .filing import misfiled
+
+    return misfiled(rows, verdicts, lambda row: _check_of_all_faults(run, row))
 
 
 def _areas(run: Run, rows: Sequence[Row]) -> Dict[str, int]:
@@ -152,7 +163,10 @@ def _tell_faults(run: Run, summary: Summary, rows: Sequence[Row], refused: Seque
     from .faults_file import Faults
 
     faults = Faults()
-    summary.untold = [row.name for row in refused if not _add_faults(run, faults, row)]
+    filed = {name for names in layers.misfiled.values() for name in names}
+    summary.untold = [
+        row.name for row in refused if row.name not in filed and not _add_faults(run, faults, row, rows)
+    ]
     by_name = {row.name: row for row in rows} if layers.crossing else {}
     for city, several in layers.crossing.items():
         for it in several if by_name[city].part_of is None else ():  # a city within it has none that this one lacks
@@ -163,15 +177,23 @@ def _tell_faults(run: Run, summary: Summary, rows: Sequence[Row], refused: Seque
         summary.faults_file = str(run.results.path / "faults.gpkg")
 
 
-def _add_faults(run: Run, faults: Faults, row: Row) -> bool:
+def _add_faults(run: Run, faults: Faults, row: Row, rows: Sequence[Row]) -> bool:
     """Takes every fault of a refused city; False where the check that told them has none of the same files."""
+    told = _check_of_all_faults(run, row)
+    if told is None:
+        return False
+    faults.add(row, told, [it for it in rows if it.part_of is not None and it.part_of == row.part_of and it != row])
+    return True
+
+
+def _check_of_all_faults(run: Run, row: Row) -> Optional[Result]:
+    """The check that told every fault of a refused city; None where it has none of the same files."""
     city = run.found["cities"][row.name][0]
     kind = "cities" if run.layer_of_first_fault(row) is None else "faults"
     told = run.results.result(kind, row.name) if row.name in run.found[kind] else None
     if told is None or told.run != run.found[kind][row.name][0].run or not _same_files(city, told):
-        return False
-    faults.add(row, told)
-    return True
+        return None
+    return told
 
 
 def _may_have_numbers(row: Row) -> bool:

@@ -38,10 +38,10 @@ SHOWN = 8
 class Verdict:
     """What is known of a city. `verdict` is `tiles`, `refused`, or `none` where there is no result.
 
-    Of a city of districts it is what they make up (`Whole`), and may be `open`, too. `code`, `layer` and `text` say why
-    it is refused (docs/cli.md), or why there is no result (docs/many.md). `parcels` is how many tile, `area2` twice the
-    city's area in mm2 (of a check), `pairs` and `split` are an overlay's; each is None where it is not told. `seconds`
-    and `memory_kb` are the program's.
+    Of a city of districts it is what they make up (`Whole`), and may be `open` or `misfiled`, too. `code`, `layer` and
+    `text` say why it is refused (docs/cli.md), or why there is no result (docs/many.md). `parcels` is how many tile,
+    `area2` twice the city's area in mm2 (of a check), `pairs` and `split` are an overlay's; each is None where it is
+    not told. `seconds` and `memory_kb` are the program's.
     """
 
     name: str
@@ -123,6 +123,8 @@ class Layers:
     """How many pairs of a parcel and a zone a city's districts have together, and how many parcels are split."""
     not_overlaid: Mapping[str, str] = field(default_factory=dict)
     """Why pairs of a city are not known, by its name."""
+    misfiled: Mapping[str, Sequence[str]] = field(default_factory=dict)
+    """Districts whose files have parcels of one another, by the name of the city, which all parcels tile."""
 
 
 @dataclass(frozen=True)
@@ -131,8 +133,9 @@ class Whole:
 
     `kind` is `tiles`: all parcels of its districts together tile it. That is a law (docs/guarantees.md) where the
     districts tile the city, and each district's parcels tile its ring. It is `refused` where the layer of districts or
-    the parcels of a district do not, and `open` where a district was not judged. `said` tells why. `parcels` is how
-    many the districts have together, `area2` twice the city's area in mm2; each is None where it is not told.
+    the parcels of a district do not, `misfiled` where all parcels tile it and some lie in another district's file, and
+    `open` where a district was not judged. `said` tells why. `parcels` is how many the districts have together, `area2`
+    twice the city's area in mm2; each is None where it is not told.
     """
 
     name: str
@@ -153,7 +156,7 @@ class Whole:
     @property
     def verdict(self) -> Verdict:
         """The same as a verdict of the city, with what its layer of districts took."""
-        code = {"tiles": "", "open": "open"}.get(self.kind, "H2")
+        code = {"tiles": "", "open": "open", "misfiled": "misfiled"}.get(self.kind, "H2")
         costs: Dict[str, Any] = {}
         if self.layer is not None:
             costs = {"seconds": self.layer.seconds, "memory_kb": self.layer.memory_kb}
@@ -178,6 +181,10 @@ def whole_of(
     listed = [it for _, it in sorted(districts.items())]
     bad = [it for it in listed if not it.tiles]
     why = [] if layer.tiles else [f"the layer of districts does not ({layer.code})"]
+    if layer.tiles and bad and all(it.verdict == "misfiled" for it in bad):
+        names = shortened([it.name for it in bad])
+        said = f"all parcels tile, and the filing is wrong in {names}"
+        return Whole(layer.name, count, "misfiled", said, layer=layer)
     if bad:
         names = shortened([f"{it.name} ({it.code})" for it in bad])
         why.append(f"{count - len(bad)} of {count} districts tile; not {names}")
@@ -188,6 +195,17 @@ def whole_of(
     told = "all parcels" if parcels is None else _count(parcels, "parcel", "parcels")
     said = f"tiles: {told} of {_count(count, 'district', 'districts')}"
     return Whole(layer.name, count, "tiles", said, parcels, layer.area2, layer)
+
+
+def _with_filing(whole: Whole, layers: Layers) -> Whole:
+    """The same, where all parcels tile the city and lie in one another's files: so, with those that do."""
+    names = layers.misfiled.get(whole.name)
+    if whole.kind != "refused" or not names:
+        return whole
+    astray = [f"{it.number} of {it.district} lies in {it.other}" for it in layers.crossing.get(whole.name, ())]
+    told = f": parcel {shortened(astray)}" if astray else ""
+    said = f"all parcels tile, and the filing is wrong: the edges of {shortened(names)} cancel one another{told}"
+    return replace(whole, kind="misfiled", said=said)
 
 
 def _with_numbers(whole: Whole, layers: Layers) -> Whole:
@@ -254,7 +272,8 @@ def wholes_of(rows: Sequence[Row], verdicts: Mapping[str, Verdict], layers: Laye
             verdict = verdicts[name]
             if verdict.area2 is None:
                 verdict = replace(verdict, area2=layers.area2.get(name))
-            found[name] = _with_numbers(whole_of(verdict, numbered, layers.astray, layers.records.get(name)), layers)
+            whole = whole_of(verdict, numbered, layers.astray, layers.records.get(name))
+            found[name] = _with_numbers(_with_filing(whole, layers), layers)
     return [found[row.name] for row in rows if row.name in found]
 
 
@@ -290,7 +309,8 @@ class Summary:
     def status(self) -> int:
         """The command's: 0 where all tile, 1 where one does not, 3 where one is open or has no verdict."""
         kinds = {it.verdict for it in self.verdicts}
-        return 3 if kinds & {"none", "open"} else 1 if "refused" in kinds or self.differing or self.unwritten else 0
+        bad = kinds & {"refused", "misfiled"} or self.differing or self.unwritten
+        return 3 if kinds & {"none", "open"} else 1 if bad else 0
 
     @property
     def without(self) -> List[Verdict]:
@@ -300,11 +320,13 @@ class Summary:
     def lines(self) -> List[str]:
         """What is printed: how many cities tile, each city of districts, and where the faults are."""
         texts = [f"{_count(len(self.verdicts), 'city', 'cities')}: {sum(it.tiles for it in self.verdicts)} tile"]
-        for verdict, words in (("refused", "refused"), ("open", "open"), ("none", "without a verdict")):
+        kinds = ("refused", "refused"), ("misfiled", "misfiled"), ("open", "open"), ("none", "without a verdict")
+        for verdict, words in kinds:
             codes = Counter(it.code for it in self.verdicts if it.verdict == verdict)
             if codes:
                 listed = ", ".join(f"{code} {n}" for code, n in sorted(codes.items()))
-                texts.append(f"{sum(codes.values())} {words}" + ("" if verdict == "open" else f" ({listed})"))
+                plain = verdict in ("open", "misfiled")
+                texts.append(f"{sum(codes.values())} {words}" + ("" if plain else f" ({listed})"))
         lines = [", ".join(texts) + (f"; {self.kept} kept" if self.kept else "")]
         lines += [f"{whole.name}: {whole.said}" for whole in self.wholes]
         if self.faults_file is not None:
@@ -357,6 +379,7 @@ class Summary:
                 "cities": len(self.verdicts),
                 "tiles": counts["tiles"],
                 "refused": counts["refused"],
+                "misfiled": counts["misfiled"],
                 "open": counts["open"],
                 "none": counts["none"],
                 "kept": self.kept,

@@ -7,7 +7,7 @@ import os
 import shutil
 from dataclasses import asdict
 from pathlib import Path
-from typing import Any, Dict, List, Tuple, Union
+from typing import Any, Callable, Dict, List, Optional, Tuple, Union
 
 import geopandas as gpd
 import numpy as np
@@ -24,13 +24,18 @@ from .rows import CHANGES, TOUCHED, Changes, Island, Rows, Skipped
 from .units import Unit
 
 
-def save(prepared: Prepared, work: Path) -> None:
-    """Writes the folder whole or not at all. One that was there is replaced where `prepare` made it, else P14."""
+def save(prepared: Prepared, work: Path, more: Optional[Callable[[Path], object]] = None) -> None:
+    """Writes the folder whole or not at all. One that was there is replaced where `prepare` made it, else P14.
+
+    `more` writes what else is to stand in it.
+    """
     test_own(work)
     aside = work.with_name(f".{os.getpid()}.{work.name}")
     try:
         aside.mkdir(parents=True)
         _write(prepared, aside)
+        if more is not None:
+            more(aside)
         _put_in_place(aside, work)
     except OSError as fault:
         raise Refused("P14", f"{work} can't be written: {fault}") from fault

@@ -4,7 +4,7 @@ from __future__ import annotations
 from dataclasses import dataclass, field
 from functools import cached_property
 from pathlib import Path
-from typing import Any, Dict, List, Sequence, Optional, Union
+from typing import Any, Callable, Dict, List, Optional, Sequence, Union
 
 import geopandas as gpd
 import numpy as np
@@ -179,11 +179,14 @@ class Prepared:
         """The folders of the islands: the work folder itself where there is one island."""
         return [work] if len(self.islands) == 1 else [work / f"island_{i}" for i in range(1, len(self.islands) + 1)]
 
-    def save(self, work: Union[str, Path]) -> None:
-        """Writes the folder whole or not at all. One that was there is replaced where `prepare` made it, else P14."""
+    def save(self, work: Union[str, Path], more: Optional[Callable[[Path], object]] = None) -> None:
+        """Writes the folder whole or not at all. One that was there is replaced where `prepare` made it, else P14.
+
+        `more` writes what else is to stand in it.
+        """
         from .folders import save
 
-        save(self, Path(work))
+        save(self, Path(work), more)
 
     def changes_frame(self) -> gpd.GeoDataFrame:
         """Each corner that was changed, where it was: change, layer, number, distance_mm, closed_m2, x_mm and y_mm.

@@ -13,9 +13,9 @@ from starlette.routing import Match
 from ..errors import Refused
 from .faults import as_json
 from .models import Refusal
-from .routes import edits, features, pages, questions, state
+from .routes import drafts, edits, features, pages, parcels, places, state, styles, tiles
 from .routes.parameters import known_parameters
-from .site import Site, answer_of
+from .site import Site, answer_of, gone
 
 _TEXTS = {
     400: "the body can't be read: send it as the definition at /api has it",
@@ -26,11 +26,24 @@ _TEXTS = {
 
 def application(site: Site, issuer: Optional[str] = None) -> FastAPI:
     """The application of a register."""
-    app = FastAPI(
-        title="A parcel register",
-        version="1.1.0",
-        description="Parcels that tile a city, exactly, by a formally verified program. Coordinates of edits and of "
+    app = bare_application(
+        "A parcel register",
+        "Parcels that tile a city, exactly, by a formally verified program. Coordinates of edits and of "
         "`/locate` are whole millimetres.",
+    )
+    app.state.site, app.state.issuer = site, issuer
+    themes = (edits, places, parcels, pages, features, tiles, styles, drafts, state)
+    for module in themes:  # the first ones are found soonest
+        app.include_router(module.router)
+    return app
+
+
+def bare_application(title: str, description: str) -> FastAPI:
+    """An application without routes, that answers what is refused."""
+    app = FastAPI(
+        title=title,
+        version="1.1.0",
+        description=description,
         openapi_url=None,
         docs_url=None,
         redoc_url=None,
@@ -38,10 +51,6 @@ def application(site: Site, issuer: Optional[str] = None) -> FastAPI:
         responses={400: {"model": Refusal, "description": "a parameter or a body that is not understood"}},
     )
     _add_faults(app)
-    for router in (edits.router(site), questions.router(site)):  # the first ones are found soonest
-        app.include_router(router)
-    for router in (pages.router(site, app, issuer), features.router(site), state.router(site)):
-        app.include_router(router)
     return app
 
 
@@ -62,9 +71,8 @@ def _add_faults(app: FastAPI) -> None:
             return Response(status_code=204, headers=headers)
         return JSONResponse(as_json(status, "address", _TEXTS.get(status, "no")), status, headers)
 
-    async def gone(request: Request, fault: Any) -> Response:
-        text = "a body has at most 1048576 bytes, and comes within 20 seconds"
-        return JSONResponse(as_json(413, "size", text), 413, {"connection": "close"})
+    async def cut(request: Request, fault: Any) -> Response:
+        return gone()
 
     async def fault(request: Request, fault: Any) -> Response:
         return JSONResponse(as_json(500, "fault", "the server has a fault here: tell its operator when"), 500)
@@ -73,7 +81,7 @@ def _add_faults(app: FastAPI) -> None:
     app.add_exception_handler(Refused, refused)
     app.add_exception_handler(RequestValidationError, invalid)
     app.add_exception_handler(HTTPException, none)
-    app.add_exception_handler(ClientDisconnect, gone)
+    app.add_exception_handler(ClientDisconnect, cut)
 
 
 def _methods_of(app: FastAPI, request: Request) -> List[str]:

@@ -21,9 +21,15 @@ def add_commands(commands: Any) -> None:
     """Adds both to the commands of a command line."""
     one = commands.add_parser("serve", help="a register on the web, for clerks, readers and a GIS")
     one.add_argument("folder", metavar="FOLDER", help="what prepare wrote")
-    one.add_argument("--journal", required=True, metavar="FILE", help="the journal; it is made where it is not there")
+    one.add_argument(
+        "--journal",
+        required=True,
+        metavar="FILE",
+        help="the journal, or of districts the folder of journals; it is made",
+    )
     one.add_argument("--island", type=int, default=1, metavar="N", help="the island of the register (1)")
     one.add_argument("--crs", metavar="EPSG:CODE", help="the projection of a layer that has none")
+    one.add_argument("--awake", type=int, metavar="N", help="districts that stay open while nobody asks them (16)")
     _add_server(one)
     two = commands.add_parser("backup", help="copies a register that may be open: layer, journal and digests")
     two.add_argument("folder", metavar="FOLDER", help="what prepare wrote, or with --check a backup")
@@ -47,6 +53,12 @@ def _add_server(one: Any) -> None:
     one.add_argument("--keyfile", metavar="FILE", help="its key, where that is another file")
     one.add_argument("--url", metavar="URL", help="the server's address as clients know it, behind a proxy")
     one.add_argument(
+        "--base-map",
+        type=_map_address,
+        metavar="URL",
+        help="a WMS with its layers, which the page shows below the parcels",
+    )
+    one.add_argument(
         "--rate", type=float, default=10_000.0, metavar="N", help="requests a second of one client (10000); 0 for any"
     )
     one.add_argument(
@@ -62,6 +74,15 @@ def _add_server(one: Any) -> None:
         default=10_000,
         metavar="N",
         help="versions that can be asked for: so many entries back (10000)",
+    )
+
+
+def _map_address(text: str) -> str:
+    """The address of a base map, as `https://maps.example/wms?layers=photo`."""
+    if re.fullmatch(r"https?://[A-Za-z0-9.:\[\]-]+(/[^\s'\";,]*)?", text):
+        return text
+    raise argparse.ArgumentTypeError(
+        "it begins with https:// and has the layers: https://maps.example/wms?layers=photo"
     )
 
 

@@ -7,7 +7,7 @@ from typing import List, Optional, Sequence, Tuple
 import numpy as np
 from pyproj import CRS, Transformer
 from pyproj.exceptions import CRSError, ProjError
-from shapely.geometry import MultiPolygon, Polygon
+from shapely.geometry import MultiPolygon, Point, Polygon
 from shapely.geometry.base import BaseGeometry
 
 from ..arrays import Array
@@ -26,6 +26,8 @@ CONFIDENCE = 70
 """From which likeness on, of 100, PROJ takes a projection and an authority's code for the same."""
 RADIUS = 6_378_137.0
 """Metres of the sphere of Web Mercator."""
+FARTHEST = 1e14
+"""Millimetres from 0 beyond which no place is looked for: the program's coordinates end far before."""
 MARGIN = 0.001
 """Degrees that the register's own box is widened by: it is measured."""
 
@@ -62,7 +64,9 @@ class Projection:
         self.uri: Optional[str] = None
         if authority is not None:
             self.uri = f"http://www.opengis.net/def/crs/{authority[0]}/0/{authority[1]}"
-        self._is_north_first = _is_north_first(crs)
+        self.name: Optional[str] = None if authority is None else ":".join(authority)
+        """As `EPSG:25832`."""
+        self.is_north_first = _is_north_first(crs)
         try:
             self._out = Transformer.from_crs(crs, "OGC:CRS84", always_xy=True)
             self._in = Transformer.from_crs("OGC:CRS84", crs, always_xy=True)
@@ -114,7 +118,7 @@ class Projection:
         """Corners in mm (k, 2) as coordinates in the axes' order of a projection: degrees are rounded."""
         places = np.asarray(corners, dtype=float) / self.scale
         if uri == self.uri:
-            return places[:, ::-1] if self._is_north_first else places
+            return places[:, ::-1] if self.is_north_first else places
         degrees = np.asarray(np.round(np.column_stack(self._out.transform(*places.T)), DECIMALS))
         if uri == MERCATOR:
             return _mercator(degrees)
@@ -124,14 +128,23 @@ class Projection:
         """The nearest whole millimetres of a place in a projection, and how far off it is in mm (measured)."""
         if not (np.isfinite(x) and np.isfinite(y)):
             raise BadRequest("x", "x and y are numbers")
-        if uri == WGS84 or uri == self.uri and self._is_north_first:
+        if uri == WGS84 or uri == self.uri and self.is_north_first:
             x, y = y, x
         if uri != self.uri:
             x, y = self._in.transform(*(_degrees_of(x, y) if uri == MERCATOR else (x, y)))
-        if not (np.isfinite(x) and np.isfinite(y)) or max(abs(x), abs(y)) * self.scale > 1e14:
+        if not (np.isfinite(x) and np.isfinite(y)) or max(abs(x), abs(y)) * self.scale > FARTHEST:
             raise BadRequest("x", "the place is too far out for the projection")
         whole = round(x * self.scale), round(y * self.scale)
         return (*whole, float(np.hypot(x * self.scale - whole[0], y * self.scale - whole[1])))
+
+    def point(self, x: float, y: float, uri: str) -> BaseGeometry:
+        """A place of a projection in mm, measured; no place where the projection is not defined."""
+        if uri == WGS84 or uri == self.uri and self.is_north_first:
+            x, y = y, x
+        if uri != self.uri:
+            x, y = self._in.transform(*(_degrees_of(x, y) if uri == MERCATOR else (x, y)))
+        is_place = np.isfinite(x) and np.isfinite(y) and max(abs(x), abs(y)) * self.scale < FARTHEST
+        return Point(x * self.scale, y * self.scale) if is_place else Point()
 
     def area(self, box: Sequence[float], uri: str) -> Optional[BaseGeometry]:
         """A box of a projection as an area in mm; None where the whole register is in it.
@@ -139,7 +152,7 @@ class Projection:
         In degrees it may go round the earth: first longitude above last.
         """
         if uri == self.uri:
-            low, high = _ends(box, self._is_north_first)
+            low, high = _ends(box, self.is_north_first)
             return _rectangle(low * self.scale, high * self.scale)
         if uri == MERCATOR:
             low, high = _ends(box, False)

@@ -84,7 +84,7 @@ class FaultyRegister(Register):
     async def close(self) -> None:
         """Ends it: there is nothing to be kept."""
         self.state = "closed"
-        self._tell()
+        self.published.close()
 
     async def submit(self, asked: Asked, at: Optional[int] = None) -> Tuple[Entry, bool]:
         """Raises `Faulty`: it takes no edit."""

@@ -1,73 +1,43 @@
-"""OGC API Features, Parts 1 and 2: the collections, and pages of their features in one published version."""
+"""OGC API Features: the collections of a register, each in any version that is kept."""
 from __future__ import annotations
 
-import re
-from dataclasses import dataclass, replace
+from dataclasses import replace
 from datetime import datetime, timezone
-from typing import Any, Callable, Dict, List, Mapping, Optional, Sequence, Tuple
-from urllib.parse import urlencode
+from functools import partial
+from typing import Any, Dict, List, Optional, Sequence
 
 import numpy as np
-from shapely import affinity
-from shapely.geometry import Polygon, box
-from shapely.prepared import prep
 
-from ..arrays import Array
 from .crs import CRS84
-from .entries import Row, Versions
+from .entries import Entry, Row
 from .faults import Gone, NoSuchThing, NotServing
 from .queries import Asked
 from .register import Register
-from .schemas import KIND, feature_schema_of, queryables_of, schema_of
+from .schemas import KIND, Types, feature_schema_of, queryables_of, schema_of, types_of
+from .views import View, encoded, kept_text, with_more
 
+_OGC = "http://www.opengis.net/spec"
 CONFORMANCE = [
-    *(
-        f"http://www.opengis.net/spec/ogcapi-features-1/1.0/conf/{name}"
-        for name in ("core", "oas30", "html", "geojson")
-    ),
-    "http://www.opengis.net/spec/ogcapi-features-2/1.0/conf/crs",
+    *(f"{_OGC}/ogcapi-features-1/1.0/conf/{name}" for name in ("core", "oas30", "html", "geojson")),
+    f"{_OGC}/ogcapi-features-2/1.0/conf/crs",
+    *(f"{_OGC}/ogcapi-features-3/1.0/conf/{name}" for name in ("queryables", "filter", "features-filter")),
+    *(f"{_OGC}/cql2/1.0/conf/{name}" for name in ("cql2-text", "cql2-json", "basic-cql2", "basic-spatial-functions")),
+    *(f"{_OGC}/ogcapi-tiles-1/1.0/conf/{name}" for name in ("core", "mvt")),
 ]
 _RELATIONS = "http://www.opengis.net/def/rel/ogc/1.0"
-
-
-@dataclass(frozen=True)
-class View:
-    """A collection in one version: the rows of `versions` at `version`, of which `only` has the ids, if not all.
-
-    With `since` those, too, that were there after so many entries and are not any more.
-    """
-
-    versions: Versions
-    version: int
-    entries: int
-    properties: Callable[[Row], Dict[str, Any]]
-    only: Optional[Array] = None
-    since: Optional[int] = None
-
-    def places(self, bounds: Any = None) -> Array:
-        """Where its rows are in `versions`, by ascending ids."""
-        found = self.versions.places(self.version, bounds, self.since)
-        if self.only is None:
-            return found
-        return found[np.isin(self.versions.ids(found), self.only)]
-
-    def find(self, number: int) -> Optional[Row]:
-        """The row with this id."""
-        row = self.versions.find(number, self.version, self.since)
-        return row if row is None or self.only is None or number in self.only else None
+MVT = "application/vnd.mapbox-vector-tile"
+TRIES = 30
+"""Seconds that overlaps wait until their version is published."""
 
 
 class Collections:
-    """The collections of a register, by their names."""
+    """The collections of a register: `parcels`, `history`, and with zones `zones` and `split`; or `faults`."""
 
     TITLES = {
-        "parcels": (
-            "Parcels",
-            "Exact, by the program: shape in the register's projection, area2_mm2, entry. Measured: " "degrees.",
-        ),
+        "parcels": ("Parcels", "The parcels, on the grid of whole millimetres. Measured: degrees."),
         "history": (
             "Parcels that are or were",
-            "Each parcel of all versions that are kept, with the moments from which and until which it was there.",
+            "Each with its times, and the ids that it replaces. Measured: degrees.",
         ),
         "zones": ("Zones", "The zones on the grid of whole millimetres. Measured: degrees."),
         "faults": ("Faults of the parcels", "Gaps, overlaps and slivers, the largest first, by the program."),
@@ -87,8 +57,8 @@ class Collections:
         return ["parcels", "history", *zones, *(["split"] if zones else [])]
 
     def told(self, name: str, base: str) -> Dict[str, Any]:
-        """What an answer says of a collection. `base` is the server's address."""
-        self._test(name)
+        """What an answer says of a collection. `base` is the server's address. Raises `NoSuchThing`."""
+        self.test(name)
         title, text = self.TITLES[name]
         projection = self._register.layer.projection
         at = f"{base}/collections/{name}"
@@ -108,20 +78,35 @@ class Collections:
                 link(f"{at}/feature-schema", "describedBy", KIND, "the same, by the name that GDAL 3.6 looks for"),
                 link(f"{at}/schema", f"{_RELATIONS}/schema", KIND, "the schema of the properties"),
                 link(f"{at}/queryables", f"{_RELATIONS}/queryables", KIND, "what can be asked for"),
+                *(
+                    [link(f"{at}/tiles", f"{_RELATIONS}/tilesets-vector", "application/json", "its vector tiles")]
+                    if name in self.tiled
+                    else []
+                ),
             ],
         }
         return {**told, "storageCrs": projection.uri} if projection.uri else told
 
+    @property
+    def tiled(self) -> List[str]:
+        """The collections that are offered as vector tiles."""
+        return [name for name in self.names if name in ("parcels", "zones")]
+
+    def types(self, name: str) -> Types:
+        """The properties of a collection's features, and their schemas. Raises `NoSuchThing`."""
+        self.test(name)
+        return types_of(name, self._register.layer)
+
     def schema(self, name: str, kind: str, base: str) -> Dict[str, Any]:
         """A schema of a collection: `schema`, `queryables` or `feature-schema`. Raises `NoSuchThing`."""
-        self._test(name)
+        self.test(name)
         makes = {"schema": schema_of, "queryables": queryables_of, "feature-schema": feature_schema_of}
         at = f"{base}/collections/{name}/{kind}"
         return makes[kind](name, self.TITLES[name][0], self._register.layer, at)
 
     async def view(self, name: str, entries: Optional[int]) -> View:
         """A collection after so many entries, or of now. Raises `NoSuchThing`, `Gone`."""
-        self._test(name)
+        self.test(name)
         register = self._register
         newest = await register.shown()
         wanted = newest if entries is None else entries
@@ -130,14 +115,21 @@ class Collections:
         if wanted < register.versions.first:
             raise Gone("entries", f"version {wanted} is not kept any more: begin again without entries")
         if name == "zones":
-            return View(self._zones, 0, wanted, self._zone_properties)
+            return View(self._zones, 0, wanted, self._zone_properties, self._zone_text)
         if name == "split":
             return await self._split(entries, newest)
         if name == "history":
-            return View(register.versions, wanted, wanted, self._past_properties, None, register.versions.first)
-        return View(register.versions, wanted, wanted, self.parcel_properties)
+            told = partial(self._past_properties, wanted), partial(self._past_text, wanted)
+            return View(register.versions, wanted, wanted, *told, None, register.versions.first)
+        return View(register.versions, wanted, wanted, self.parcel_properties, self.parcel_text)
 
-    async def _view_at(self, name: str, asked: Asked) -> View:
+    def now(self, name: str) -> Optional[View]:
+        """The parcels as they are published now, for what need not be exact; None of other collections."""
+        versions = self._register.versions
+        last = versions.last
+        return View(versions, last, last, self.parcel_properties, self.parcel_text) if name == "parcels" else None
+
+    async def view_at(self, name: str, asked: Asked) -> View:
         """A collection as it was at a moment, or with all that was there in an interval."""
         if asked.moments is None or name == "zones":
             return await self.view(name, asked.entries)
@@ -157,7 +149,7 @@ class Collections:
         overlaps = await register.kept_overlaps(newest if entries is None else entries)
         if overlaps is None:
             overlaps = await register.overlaps()
-            for _ in range(30):
+            for _ in range(TRIES):
                 if register.versions.last >= overlaps.entries:
                     break
                 await register.news(register.versions.last, 1.0)
@@ -171,12 +163,18 @@ class Collections:
         for parcel, zone in overlaps.pairs.tolist():
             zones.setdefault(parcel, []).append(zone)
 
-        def properties(row: Row) -> Dict[str, Any]:
+        def more(row: Row) -> Dict[str, Any]:
             names = register.layer.zone_names(zones.get(row.id, []))
-            return {**self.parcel_properties(row), "zones": ",".join(names), "zone_count": len(names)}
+            return {"zones": ",".join(names), "zone_count": len(names)}
+
+        def properties(row: Row) -> Dict[str, Any]:
+            return {**self.parcel_properties(row), **more(row)}
+
+        def text(row: Row) -> bytes:
+            return with_more(self.parcel_text(row), encoded(more(row))[1:-1])
 
         only = np.array(sorted(overlaps.split), dtype=np.int64)
-        return View(register.versions, overlaps.entries, overlaps.entries, properties, only)
+        return View(register.versions, overlaps.entries, overlaps.entries, properties, text, only)
 
     def parcel_properties(self, row: Row) -> Dict[str, Any]:
         """What a parcel is, but for its shape. The area in m2 is the exact one, rounded."""
@@ -184,169 +182,42 @@ class Collections:
         exact = {"entry": row.born, "area2_mm2": str(row.area2), "area_m2": row.area2 / 2_000_000}
         return {"id": row.id, "number": own["number"], **exact, **own}
 
-    def _past_properties(self, row: Row) -> Dict[str, Any]:
-        """What a parcel is or was, and when."""
-        register = self._register
-        made, taken = register.past.made_by(row.id), register.past.taken_by(row.id)
+    def parcel_text(self, row: Row) -> bytes:
+        """`parcel_properties` as JSON: all of it stays as it is for as long as the row is there."""
+        return kept_text(row, "parcel", self.parcel_properties)
+
+    def _past_properties(self, version: int, row: Row) -> Dict[str, Any]:
+        """What a parcel is or was, and when, as it was known after so many entries."""
+        past = self._register.past
+        made, taken = past.made_by(row.id), self._taken_by(version, row)
         times = {"since": made and made.time, "until": taken and taken.time, "ended_by": taken and taken.number}
-        ids = {"replaces": register.past.parents(row.id), "replaced_by": register.past.children(row.id)}
+        ids = {"replaces": past.parents(row.id), "replaced_by": past.children(row.id) if taken else ()}
         return {**self.parcel_properties(row), **times, **{name: _joined(it) for name, it in ids.items()}}
+
+    def _past_text(self, version: int, row: Row) -> bytes:
+        """`_past_properties` as JSON: it changes once, where the parcel is taken out."""
+        name = "gone" if self._taken_by(version, row) else "past"
+        return kept_text(row, name, partial(self._past_properties, version))
+
+    def _taken_by(self, version: int, row: Row) -> Optional[Entry]:
+        taken = self._register.past.taken_by(row.id)
+        return taken if taken is not None and taken.number <= version else None
 
     def _zone_properties(self, row: Row) -> Dict[str, Any]:
         own = self._register.layer.zone_properties(row.id)
         return {"id": row.id, **own, "area2_mm2": str(row.area2), "area_m2": row.area2 / 2_000_000}
 
-    def _test(self, name: str) -> None:
+    def _zone_text(self, row: Row) -> bytes:
+        return kept_text(row, "zone", self._zone_properties)
+
+    def test(self, name: str) -> None:
+        """Tests that there is such a collection. Raises `NoSuchThing`."""
         if name not in self.names:
             raise NoSuchThing("collection", f"the collections are {', '.join(self.names)}")
-
-    async def page(self, name: str, given: Mapping[str, str], base: str) -> "Page":
-        """A page of features, as the parameters of a request say. Raises `BadRequest`, and as `view` does."""
-        asked = Asked.of(given, self._register)
-        self._test(name)
-        if name == "faults":
-            found = self._faults(asked)
-            shown = [self._fault(it, asked.crs) for it in found[asked.offset : asked.offset + asked.limit]]
-            return self._paged(name, given, base, asked, (len(found), shown, 0))
-        view = await self._view_at(name, asked)
-        places = self._matching(view, asked)
-        if asked.number is not None:
-            layer = self._register.layer
-            ids = layer.zones_named(asked.number) if name == "zones" else layer.parcels_named(asked.number)
-            places = places[np.isin(view.versions.ids(places), ids)]
-        if name != "zones":
-            places = _spread(places, self._register.layer.date_like(view.versions.ids(places)))
-        rows = [view.versions.row(at) for at in places[asked.offset : asked.offset + asked.limit].tolist()]
-        return self._paged(name, given, base, asked, (len(places), self._features(rows, view, asked.crs), view.entries))
-
-    def _paged(
-        self, name: str, given: Mapping[str, str], base: str, asked: Asked, found: Tuple[int, List[Any], int]
-    ) -> "Page":
-        """A page of the features that were found: how many match, those of the page, and their version."""
-        matched, features, entries = found
-        at, after = f"{base}/collections/{name}/items", asked.offset + len(features)
-        links = [link(f"{at}?{urlencode(dict(given))}".rstrip("?"), "self", "application/geo+json", "this page")]
-        links.append(link(f"{at}?{urlencode({**given, 'f': 'html'})}", "alternate", "text/html", "this page"))
-        links.append(link(f"{base}/collections/{name}", "collection", "application/json", self.TITLES[name][0]))
-        if after < matched and features:
-            more = urlencode({**given, "limit": asked.limit, "offset": after, "entries": entries})
-            links.append(link(f"{at}?{more}", "next", "application/geo+json", "the next page"))
-        told = {
-            "type": "FeatureCollection",
-            "timeStamp": now(),
-            "numberMatched": matched,
-            "numberReturned": len(features),
-            "links": links,
-            "features": features,
-        }
-        return Page(told, entries, asked.crs)
-
-    def _faults(self, asked: Asked) -> List[Any]:
-        """The faults of the layer that a request asks for."""
-        scale = self._register.layer.projection.scale
-        area = None if asked.area is None else affinity.scale(asked.area, 1 / scale, 1 / scale, origin=(0, 0))
-        return [
-            it
-            for it in self._register.faults or []
-            if (area is None or it.shape.intersects(area)) and (asked.number is None or it.is_of(asked.number))
-        ]
-
-    def _fault(self, row: Any, crs: str) -> Dict[str, Any]:
-        geometry = row.geometry(self._register.layer.projection, crs)
-        return {"type": "Feature", "id": row.id, "geometry": geometry, "properties": row.properties}
-
-    async def feature(self, name: str, number: str, given: Mapping[str, str], base: str) -> "Page":
-        """One feature. Raises `NoSuchThing`, `BadRequest`."""
-        asked = Asked.of(given, self._register)
-        self._test(name)
-        at, entries = f"{base}/collections/{name}", 0
-        wanted = int(number) if re.fullmatch("[0-9]{1,18}", number) else -1
-        if name == "faults":
-            features = [self._fault(it, asked.crs) for it in self._register.faults or [] if it.id == wanted]
-        else:
-            view = await self.view(name, asked.entries)
-            entries, row = view.entries, view.find(wanted)
-            features = [] if row is None else self._features([row], view, asked.crs)
-        if not features:
-            raise NoSuchThing("feature", f"{name} has no feature {number[:40]} after {entries} entries")
-        found = features[0]
-        found["links"] = [
-            link(f"{at}/items/{wanted}", "self", "application/geo+json", "this feature"),
-            link(f"{at}/items/{wanted}?f=html", "alternate", "text/html", "this feature"),
-            link(at, "collection", "application/json", self.TITLES[name][0]),
-        ]
-        return Page(found, entries, asked.crs)
-
-    def _matching(self, view: View, asked: Asked) -> Array:
-        """The rows whose shape meets the box: exact but for the edge of the box, where GEOS measures."""
-        if asked.area is None:
-            return view.places()
-        if asked.area.is_empty:
-            return np.zeros(0, dtype=np.int64)
-        versions, places = view.versions, view.places(asked.area.bounds)
-        meets = prep(asked.area)
-        inner = _inner(asked.area)
-        is_sure = np.zeros(len(places), dtype=bool)
-        if inner is not None and meets.contains(inner):
-            is_sure = versions.within(places, inner.bounds)
-        kept = [
-            sure or meets.intersects(Polygon(versions.row(at).ring))
-            for at, sure in zip(places.tolist(), is_sure.tolist())
-        ]
-        return np.asarray(places[np.array(kept, dtype=bool)])
-
-    def _features(self, rows: Sequence[Row], view: View, crs: str) -> List[Dict[str, Any]]:
-        if not rows:
-            return []
-        sizes = np.cumsum([len(row.ring) for row in rows])
-        corners = self._register.layer.projection.coordinates(np.concatenate([row.ring for row in rows]), crs)
-        rings = [ring.tolist() for ring in np.split(corners, sizes[:-1])]
-        return [
-            {
-                "type": "Feature",
-                "id": row.id,
-                "geometry": {"type": "Polygon", "coordinates": [[*ring, ring[0]]]},
-                "properties": view.properties(row),
-            }
-            for row, ring in zip(rows, rings)
-        ]
-
-
-@dataclass(frozen=True)
-class Page:
-    """What an answer has: its body, the version's number, and the URI of its projection."""
-
-    body: Dict[str, Any]
-    entries: int
-    crs: str
 
 
 def _joined(ids: Sequence[int]) -> str:
     return ",".join(map(str, ids))
-
-
-def _spread(places: Array, is_date: Optional[Array]) -> Array:
-    """Rows in an order in which those whose numbers may be taken for dates, if any, and the others are spread evenly.
-
-    So a page is not all dates, where a tenth of the numbers is none: a client that guesses types takes them for text.
-    """
-    if is_date is None or is_date.all() or not is_date.any():
-        return places
-    parts = places[is_date], places[~is_date]
-    keys = np.concatenate([(np.arange(len(part)) + 0.5) / len(part) for part in parts])
-    return np.asarray(np.concatenate(parts)[np.argsort(keys, kind="stable")])
-
-
-def _inner(area: Any) -> Any:
-    """A rectangle that most of the area is in, to be tested; None where it has none. Rows in it need no test."""
-    shapes = getattr(area, "geoms", [area])
-    if len(shapes) != 1:
-        return None
-    steps = np.asarray(shapes[0].exterior.coords)[:-1]
-    corners = steps[:: max(1, len(steps) // 4)][:4]
-    (_, west, east, _), (_, south, north, _) = np.sort(corners[:, 0]), np.sort(corners[:, 1])
-    x, y = (east - west) / 1000, (north - south) / 1000
-    return box(west + x, south + y, east - x, north - y) if east > west and north > south else None
 
 
 def link(address: str, relation: str, kind: str, title: str) -> Dict[str, str]:

@@ -4,23 +4,26 @@ from __future__ import annotations
 from bisect import bisect_left
 from functools import partial
 from itertools import accumulate
-from typing import Any, Dict, Iterator, List, Tuple
+from pathlib import Path
+from typing import Any, Dict, Iterator, List, Protocol, Sized, Tuple
 
 from prometheus_client import CollectorRegistry, Counter, Gauge, generate_latest
 from prometheus_client.core import CounterMetricFamily, HistogramMetricFamily
 from prometheus_client.registry import Collector
 
-from .register import Register
 
 _PATHS = (
     "locate",
     "edits",
+    "drafts",
     "parcels",
     "entries",
     "changes",
     "overlay",
     "collections",
     "conformance",
+    "styles",
+    "tileMatrixSets",
     "api",
     "health",
     "metrics",
@@ -28,10 +31,37 @@ _PATHS = (
 _SECONDS = (0.0005, 0.001, 0.002, 0.005, 0.01, 0.02, 0.05, 0.1, 0.2, 0.5, 1.0, 2.0, 5.0, 10.0)
 
 
+class Counted(Protocol):
+    """What is counted: a register, or several."""
+
+    @property
+    def entries(self) -> Sized:
+        """Published entries."""
+
+    @property
+    def restarts(self) -> int:
+        """How often sessions were started anew."""
+
+    @property
+    def synchronised(self) -> int:
+        """Synchronisations of journals that answers told of."""
+
+    @property
+    def journal(self) -> Path:
+        """The journal, or the folder of journals."""
+
+    @property
+    def state(self) -> str:
+        """`serving` where it is open."""
+
+    def memory(self) -> Dict[str, int]:
+        """Bytes of memory of the programs."""
+
+
 class Metrics:
     """Counters of a server's life, and the register's state when they are asked for."""
 
-    def __init__(self, register: Register) -> None:
+    def __init__(self, register: Counted) -> None:
         self._register, self._all = register, CollectorRegistry()
         self.accepted = Counter("gandovel_edits_accepted", "Edits that became an entry", registry=self._all)
         self.refused = Counter("gandovel_edits_refused", "Edits that were refused", ["code"], registry=self._all)
@@ -63,7 +93,7 @@ class _Requests(Collector):
     And the register's own counts.
     """
 
-    def __init__(self, register: Register) -> None:
+    def __init__(self, register: Counted) -> None:
         self._register = register
         self._counts: Dict[Tuple[str, int], int] = {}
         self._times: Dict[str, List[int]] = {}
@@ -102,13 +132,13 @@ def _name_of(path: str) -> str:
 _NAMES = {f"/{name}": name for name in _PATHS}
 
 
-def _size(register: Register) -> int:
+def _size(register: Counted) -> int:
     try:
         return register.journal.stat().st_size
     except OSError:
         return 0
 
 
-def _memory_of(register: Register, run: str) -> float:
+def _memory_of(register: Counted, run: str) -> float:
     """Bytes of memory that one of the program's runs has; 0 of none."""
     return register.memory().get(run, 0)

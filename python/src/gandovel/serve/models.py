@@ -3,6 +3,7 @@ from __future__ import annotations
 
 from typing import TYPE_CHECKING, Any, Dict, List, Literal, Optional, Tuple
 
+from fastapi.responses import JSONResponse
 from pydantic import BaseModel, Extra, Field, conint, conlist
 
 from ..live.journals import FARTHEST
@@ -64,6 +65,15 @@ class EntryTold(BaseModel):
     edit: str = Field(description="as a line of a clerk's file")
     out: List[int] = Field(description="ids of the parcels that it took out")
     new: List[int] = Field(description="ids of the parcels that it brought")
+    digest: str = Field(description="SHA-256 of the journal's chain up to it: the clerk's receipt")
+
+
+class Proof(BaseModel):
+    """The digests that the journal's chain begins and ends with: that of the layer, and that of the newest entry."""
+
+    layer: str
+    entries: int
+    digest: str
 
 
 class Entries(BaseModel):
@@ -71,6 +81,7 @@ class Entries(BaseModel):
 
     entries: int
     records: List[EntryTold]
+    proof: Proof
 
 
 class Parcel(BaseModel):
@@ -92,6 +103,7 @@ class Parcels(BaseModel):
     """Parcels of one version."""
 
     entries: int
+    matched: int = Field(description="how many there are, on all pages")
     parcels: List[Parcel]
     next: Optional[str]
 
@@ -102,6 +114,7 @@ class History(BaseModel):
     parcel: int
     entries: int
     history: List[EntryTold]
+    proof: Proof
 
 
 class Ancestor(BaseModel):
@@ -122,6 +135,7 @@ class Lineage(BaseModel):
     parcel: int
     entries: int
     parcels: List[Ancestor]
+    proof: Proof
 
 
 class ParcelZones(BaseModel):
@@ -142,6 +156,44 @@ class Overlay(BaseModel):
     within: List[List[int]]
 
 
+class DraftTold(BaseModel):
+    """An edit that is kept and not made yet."""
+
+    id: str
+    who: str
+    time: str = Field(description="UTC")
+    why: str
+    edit: str = Field(description="as a line of a clerk's file")
+    at: int = Field(description="after how many entries it was kept")
+    parcels: List[int] = Field(description="ids of the parcels that it would take out")
+    stale_by: Optional[EntryTold] = Field(description="the first entry since then that concerns one of them")
+
+
+class DraftsTold(BaseModel):
+    """The drafts, the oldest first."""
+
+    drafts: List[DraftTold]
+
+
+class NewParcel(BaseModel):
+    """A parcel that a draft would bring."""
+
+    id: int
+    area2_mm2: str
+    area_m2: float
+    ring_mm: List[List[int]]
+    zones: List[str]
+
+
+class DraftSeen(DraftTold):
+    """A draft, and what it would be now."""
+
+    entries: int
+    out: List[int]
+    new: List[NewParcel]
+    refused: Optional[str] = Field(description="why it could not be made now")
+
+
 class Health(BaseModel):
     """Whether the register is open."""
 
@@ -152,8 +204,116 @@ class Health(BaseModel):
     trouble: str
 
 
+class Settings(BaseModel):
+    """What the page needs to know of the register before it loads parcels."""
+
+    entries: int
+    parcels: int
+    box_mm: List[int] = Field(description="the box of all parcels: least x and y, greatest x and y")
+    crs: Optional[str] = Field(description="the own projection, as `crs` of items has it")
+    epsg: Optional[str]
+    unit_mm: float = Field(description="millimetres of the projection's unit")
+    north_first: bool = Field(description="whether the projection's first coordinate is northing")
+    zones: bool
+    base_map: Optional[str]
+
+
+class Open(BaseModel):
+    """An object that may have more members than are named."""
+
+    class Config:
+        extra = Extra.allow
+
+
+class Link(BaseModel):
+    """A link of an answer."""
+
+    href: str
+    rel: str
+    type: str
+    title: str
+    templated: Optional[bool]
+
+
+class Landing(BaseModel):
+    """Where all begins."""
+
+    title: str
+    description: str
+    links: List[Link]
+
+
+class Conformance(BaseModel):
+    """The classes of the standards that the server conforms to."""
+
+    conformsTo: List[str]
+
+
+class Collection(Open):
+    """A collection of features."""
+
+    id: str
+    title: str
+    description: str
+    itemType: Literal["feature"]
+    extent: Dict[str, Any]
+    crs: List[str]
+    storageCrs: Optional[str]
+    links: List[Link]
+
+
+class Collections(BaseModel):
+    """The collections."""
+
+    links: List[Link]
+    crs: List[str]
+    collections: List[Collection]
+
+
+class Schema(Open):
+    """A JSON schema."""
+
+    type: Literal["object"]
+    title: str
+    properties: Dict[str, Any]
+
+
+class Feature(BaseModel):
+    """A feature, as GeoJSON."""
+
+    type: Literal["Feature"]
+    id: int
+    geometry: Dict[str, Any]
+    properties: Dict[str, Any]
+    links: Optional[List[Link]]
+
+
+class FeatureCollection(BaseModel):
+    """A page of features, as GeoJSON."""
+
+    type: Literal["FeatureCollection"]
+    timeStamp: str
+    numberMatched: int
+    numberReturned: int
+    links: List[Link]
+    features: List[Feature]
+
+
+class GeoJson(JSONResponse):
+    """Says of a route that it answers GeoJSON."""
+
+    media_type = "application/geo+json"
+
+
+class JsonSchema(JSONResponse):
+    """Says of a route that it answers a JSON schema."""
+
+    media_type = "application/schema+json"
+
+
 def told_by(model: Any, kind: str = "application/json", text: str = "the answer") -> Dict[Any, Dict[str, Any]]:
-    """What the definition says of a success: the model, or any object of a media type where it is None."""
+    """What the definition says of a success: the model, in the media type of the route's `response_class`; or any
+    object of a media type where it is None."""
     if model is not None:
         return {200: {"model": model, "description": text}}
     return {200: {"content": {kind: {"schema": {"type": "object"}}}, "description": text}}

@@ -31,12 +31,12 @@ class Past:
         return self._by_parcel.get(parcel, [])
 
     def made_by(self, parcel: int) -> Optional[Entry]:
-        """The entry that brought a parcel; None for one of the layer."""
-        return next((it for it in self.of(parcel) if parcel in it.new), None)
+        """The entry that brought a parcel; None for one of the layer. A change of its corners alone brings none."""
+        return next((it for it in self.of(parcel) if parcel in it.new and parcel not in it.out), None)
 
     def taken_by(self, parcel: int) -> Optional[Entry]:
         """The entry that took a parcel out; None for one that is there."""
-        return next((it for it in self.of(parcel) if parcel in it.out), None)
+        return next((it for it in self.of(parcel) if parcel in it.out and parcel not in it.new), None)
 
     def parents(self, parcel: int) -> Tuple[int, ...]:
         """The parcels that a parcel was made of."""

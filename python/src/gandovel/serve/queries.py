@@ -8,11 +8,13 @@ from datetime import datetime
 from typing import Any, List, Mapping, Optional, Tuple
 
 from .faults import BadRequest
+from .filters import Filter, filter_of
 from .register import Register
 
 DEFAULT_LIMIT, MOST_LIMIT = 100, 1000
-PARAMETERS = {"bbox", "bbox-crs", "crs", "limit", "offset", "datetime", "entries", "f", "number"}
 _INSTANT = re.compile(r"\d{4}-\d\d-\d\d[Tt]\d\d:\d\d:\d\d(\.\d+)?([Zz]|[+-]\d\d:\d\d)")
+MOST_KEYS = 10
+"""Properties to sort by."""
 Moments = Tuple[Optional[datetime], Optional[datetime]]
 """The first and the last moment of an interval, None where it is open; the same twice for a moment."""
 
@@ -28,26 +30,64 @@ class Asked:
     area: Any
     number: Optional[str]
     moments: Optional[Moments]
+    filter: Optional[Filter]
+    filter_crs: str
+    order: Tuple[Tuple[str, bool], ...]
+    """Properties to sort by, each with whether the greatest comes first."""
+    chosen: Optional[Tuple[str, ...]]
+    """The properties that are told; None for all."""
+    words: Tuple[Tuple[str, str], ...]
+    """Which features are asked for, and in which order, in the request's own words."""
 
     @classmethod
-    def of(cls, given: Mapping[str, str], register: Register) -> "Asked":
-        """Reads them. Raises `BadRequest`."""
-        only(given, PARAMETERS)
+    def of(cls, given: Mapping[str, str], register: Register, kinds: Mapping[str, Mapping[str, Any]]) -> "Asked":
+        """Reads them, for a collection whose properties have these schemas. Raises `BadRequest`."""
         projection = register.layer.projection
-        limit = whole(given, "limit", DEFAULT_LIMIT, 1)
         area = None
         if "bbox" in given:
             area = projection.area(_box(given["bbox"]), projection.named(given.get("bbox-crs"), "bbox-crs"))
         entries = whole(given, "entries", -1, 0)
+        language = given.get("filter-lang", "cql2-text")
         return cls(
-            min(limit or 1, MOST_LIMIT),
-            whole(given, "offset", 0, 0),
-            None if entries < 0 else entries,
-            projection.named(given.get("crs"), "crs"),
-            area,
-            given.get("number"),
-            _moments(given["datetime"]) if "datetime" in given else None,
+            limit=min(whole(given, "limit", DEFAULT_LIMIT, 1), MOST_LIMIT),
+            offset=whole(given, "offset", 0, 0),
+            entries=None if entries < 0 else entries,
+            crs=projection.named(given.get("crs"), "crs"),
+            area=area,
+            number=given.get("number"),
+            moments=_moments(given["datetime"]) if "datetime" in given else None,
+            filter=filter_of(given["filter"], language, kinds) if "filter" in given else None,
+            filter_crs=projection.named(given.get("filter-crs"), "filter-crs"),
+            order=_order(given.get("sortby", ""), kinds),
+            chosen=_chosen(given["properties"], kinds) if "properties" in given else None,
+            words=tuple((name, given[name]) for name in _WHICH if name in given),
         )
+
+
+_WHICH = ("bbox", "bbox-crs", "number", "filter", "filter-lang", "filter-crs", "sortby")
+
+
+def _order(text: str, kinds: Mapping[str, Any]) -> Tuple[Tuple[str, bool], ...]:
+    """Properties to sort by. Raises `BadRequest`."""
+    words = [word.strip() for word in text.split(",")] if text.strip() else []
+    found = tuple((word[1:] if word[:1] in ("+", "-") else word, word.startswith("-")) for word in words)
+    if len(found) > MOST_KEYS or any(name not in kinds for name, _ in found):
+        raise BadRequest(
+            "sortby", f"sortby has properties with commas between, - for the greatest first: {_told(kinds)}"
+        )
+    return found
+
+
+def _chosen(text: str, kinds: Mapping[str, Any]) -> Tuple[str, ...]:
+    """The properties that are told. Raises `BadRequest`."""
+    names = [word.strip() for word in text.split(",")]
+    if any(name not in kinds for name in names):
+        raise BadRequest("properties", f"properties has names with commas between: {_told(kinds)}")
+    return tuple(name for name in kinds if name in names)
+
+
+def _told(kinds: Mapping[str, Any]) -> str:
+    return ", ".join(kinds)[:300]
 
 
 def _box(text: str) -> List[float]:
@@ -89,10 +129,3 @@ def whole(given: Mapping[str, str], name: str, otherwise: int, least: int) -> in
     if not re.fullmatch("[0-9]{1,15}", text) or int(text) < least:
         raise BadRequest(name, f"{name} is a whole number from {least}")
     return int(text)
-
-
-def only(given: Mapping[str, str], names: Any) -> None:
-    """Tests that a request has no parameters but these. Raises `BadRequest`."""
-    for name in given:
-        if name not in names:
-            raise BadRequest("parameter", f"{name[:40]} is no parameter here: there are {', '.join(sorted(names))}")

@@ -62,9 +62,8 @@ def schema_of(name: str, title: str, layer: Layer, address: str) -> Dict[str, An
 
 
 def queryables_of(name: str, title: str, layer: Layer, address: str) -> Dict[str, Any]:
-    """What features can be asked for by: a parameter of `items` for each, that is equal to it."""
-    asked = {key: kind for key, kind in types_of(name, layer).items() if key in ("number", "name", "numbers")}
-    return {**_schema(address, title, {"number": next(iter(asked.values()))}), "additionalProperties": False}
+    """What features can be asked for by in a filter, and sorted by: all properties, and the shape."""
+    return {**schema_of(name, title, layer, address), "additionalProperties": False}
 
 
 def feature_schema_of(name: str, title: str, layer: Layer, address: str) -> Dict[str, Any]:

@@ -11,17 +11,20 @@ import resource
 import socket
 import ssl
 import sys
+from collections import Counter
 from functools import partial
 from pathlib import Path
-from typing import Any, ClassVar, Dict, Optional
+from typing import Any, Callable, ClassVar, Dict, Optional, Tuple
 
 import uvicorn
 from starlette.middleware.cors import CORSMiddleware
 from uvicorn.protocols.http.httptools_impl import HttpToolsProtocol
 
 from ..errors import Refused
+from ..metropolis.manifest import is_metropolis
 from .access import Clients, Tokens
 from .app import application
+from .direct import Direct
 from .door import Door, context_of
 from .faulty import FaultyRegister, is_of_layer
 from .gate import Gate
@@ -29,7 +32,6 @@ from .layer import Layer
 from .metrics import Metrics
 from .register import Register
 from .representations import Representations
-from .routes.edits import answered_edit
 from .site import Site
 
 LOG = logging.getLogger("gandovel.serve")
@@ -58,11 +60,19 @@ class Connection(HttpToolsProtocol):  # type: ignore[misc]
     """Those that a request's head is awaited of, and since when, the oldest first."""
     _idle: ClassVar[Dict["Connection", None]] = {}
     """Those whose last request was answered, the one that is idle for longest first."""
+    _of: ClassVar[Counter[str]] = Counter()
+    """How many there are of each address, but for proxies'."""
+    proxies: ClassVar[Tuple[str, ...]] = ("127.0.0.1",)
     _watch: ClassVar[Optional[asyncio.TimerHandle]] = None
     """It looks for those that are late, where there are any."""
 
     def connection_made(self, transport: Any) -> None:
         super().connection_made(transport)
+        self._address = str((self.client or ("",))[0])
+        self._of[self._address] += 1
+        if self._is_too_much():
+            transport.abort()
+            return
         if self.limit_concurrency and len(self.connections) >= self.limit_concurrency:
             for quiet in self._idle or self._silent:
                 quiet._too_slow()
@@ -72,7 +82,16 @@ class Connection(HttpToolsProtocol):  # type: ignore[misc]
             return
         self._wait()
 
+    def _is_too_much(self) -> bool:
+        """Whether this address has more than half of the connections. Proxies and others of no address may."""
+        if not self.limit_concurrency or self._address in ("", *self.proxies) or "*" in self.proxies:
+            return False
+        return bool(self._of[self._address] > max(1, self.limit_concurrency // 2))
+
     def connection_lost(self, exc: Optional[Exception]) -> None:
+        self._of[self._address] -= 1
+        if not self._of[self._address]:
+            del self._of[self._address]
         self._silent.pop(self, None)
         self._idle.pop(self, None)
         super().connection_lost(exc)
@@ -143,9 +162,12 @@ class Server(uvicorn.Server):  # type: ignore[misc]
             sockets[0].setblocking(False)
             sockets[0].listen(self.config.backlog)
             self._door = asyncio.get_running_loop().create_task(Door(sockets[0], self._security, made).run())
+        print(f"serving {self.told()} at {self._address}", flush=True)
+
+    def told(self) -> str:
+        """What is served."""
         faults = self._register.faults
-        what = f"{len(self._register.entries)} entries" if faults is None else f"a layer with {len(faults)} faults"
-        print(f"serving {what} at {self._address}", flush=True)
+        return f"{len(self._register.entries)} entries" if faults is None else f"a layer with {len(faults)} faults"
 
     async def shutdown(self, sockets: Any = None) -> None:
         if self._door is not None:
@@ -180,6 +202,9 @@ def serve(options: argparse.Namespace) -> None:
         raise Refused("W4", f"without --tokens or --oidc {text}")
     security = _security(options.certfile, options.keyfile)
     folder, journal = Path(options.folder), Path(options.journal).absolute()
+    if is_metropolis(folder):
+        _serve_metropolis(options, clients, security)
+        return
     if folder.resolve() in journal.resolve().parents:
         raise Refused(
             "W2", "the journal may not lie in the layer's folder, which prepare replaces: give it another folder"
@@ -195,6 +220,20 @@ def serve(options: argparse.Namespace) -> None:
     listener = _listener(options.host, options.port)
     try:
         _loop()(_run(options, Register(layer, journal, options.keep), clients, listener, security))
+    finally:
+        listener.close()
+
+
+def _serve_metropolis(
+    options: argparse.Namespace, clients: Optional[Clients], security: Optional[ssl.SSLContext]
+) -> None:
+    """Serves a register of districts. Refused W2, W8, P1, P14."""
+    from ..metropolis.server import metropolis_of, run_metropolis
+
+    metropolis = metropolis_of(options)
+    listener = _listener(options.host, options.port)
+    try:
+        _loop()(run_metropolis(options, metropolis, clients, listener, security))
     finally:
         listener.close()
 
@@ -230,10 +269,25 @@ async def _run(
     register = await _started(register, options.island)
     gc.freeze()  # what is there now stays: no search for what is lost goes through it
     metrics = Metrics(register)
-    site, proxies = Site(register, metrics, options.url), os.environ.get("FORWARDED_ALLOW_IPS", "127.0.0.1")
-    edits = partial(answered_edit, site)
-    within = Representations(application(site, options.oidc))
-    app: Any = Gate(within, edits, register, clients, options.rate, metrics, proxies, options.clients)
+    base_map = getattr(options, "base_map", None)
+    site, proxies = Site(register, metrics, options.url, base_map), os.environ.get("FORWARDED_ALLOW_IPS", "127.0.0.1")
+    inner = application(site, options.oidc)
+    within = Direct(inner, Representations(inner))
+    app: Any = Gate(within, clients, options.rate, metrics, proxies, options.clients, base_map)
+    await run_application(options, app, register, listener, security)
+
+
+async def run_application(
+    options: argparse.Namespace,
+    app: Any,
+    register: Any,
+    listener: socket.socket,
+    security: Optional[ssl.SSLContext],
+    made: "Callable[..., Server] | None" = None,
+) -> None:
+    """Serves an application until a signal, and closes its register then. `made` makes the server (`Server`)."""
+    proxies = os.environ.get("FORWARDED_ALLOW_IPS", "127.0.0.1")
+    Connection.proxies = tuple(it.strip() for it in proxies.split(","))
     if options.cors:
         app = CORSMiddleware(app, options.cors, ("GET", "HEAD"), _CORS_TAKEN, expose_headers=_CORS_SHOWN, max_age=600)
     config = uvicorn.Config(
@@ -251,7 +305,8 @@ async def _run(
     )
     scheme = "http" if security is None else "https"
     host, port = listener.getsockname()[:2]
-    server = Server(config, register, f"{scheme}://{f'[{host}]' if ':' in host else host}:{port}/", security)
+    address = f"{scheme}://{f'[{host}]' if ':' in host else host}:{port}/"
+    server = (made or Server)(config, register, address, security)
     try:
         await server.serve(sockets=[listener])
     finally:

@@ -2,32 +2,51 @@
 from __future__ import annotations
 
 import json
-from typing import Any, Dict, Optional
+import secrets
+from typing import Any, Dict, Optional, Sequence, Union
 
 from fastapi import Request
 from fastapi.responses import HTMLResponse, JSONResponse, Response
 
 from ..errors import JournalBroken, NoMemory, NoSuchLine, NoZones, Refused, RefusedEdit, SessionError
 from .faults import BadRequest, Fault, as_json, parcel_of, words_of
-from .features import Collections, Page
+from .drafts import Drafts
+from .features import Collections
+from .items import Items, Page
 from .metrics import Metrics
 from .pages import html_of
 from .register import Register
+from .tiles import Tiles
+from .views import encoded
 
 OPENAPI = "application/vnd.oai.openapi+json;version=3.0"
 GEOJSON = "application/geo+json"
 
 
 class Site:
-    """The register with all that its answers need. `base` is the server's address as clients know it."""
+    """The register with all that its answers need. `base` is the server's address as clients know it, and `base_map` a
+    WMS that the page shows below the parcels."""
 
-    def __init__(self, register: Register, metrics: Metrics, base: Optional[str] = None) -> None:
-        self.register, self.metrics, self._base = register, metrics, base
+    def __init__(
+        self, register: Register, metrics: Metrics, base: Optional[str] = None, base_map: Optional[str] = None
+    ) -> None:
+        self.register, self.metrics, self._base, self.base_map = register, metrics, base, base_map
         self.collections = Collections(register)
+        self.items = Items(register, self.collections)
+        self.tiles = Tiles(self.collections, register.layer.projection)
+        self.drafts = Drafts(register)
+        self.begun = secrets.token_hex(4)
+        """Of this run of the server: an older one may have made the same version otherwise."""
 
     def base(self, request: Request) -> str:
         """The server's address, without a slash at its end."""
         return (self._base or str(request.base_url)).rstrip("/")
+
+    def proof(self, entries: int) -> Dict[str, Any]:
+        """The digests of the journal's chain: of the layer, with which it begins, and of its entry with this number."""
+        register = self.register
+        digest = register.entries[entries - 1].digest if entries else register.layer_digest
+        return {"layer": register.layer_digest, "entries": entries, "digest": digest}
 
 
 def kind_of(request: Request) -> str:
@@ -47,29 +66,52 @@ def shown(
     """A body as JSON of this media type, or as a page of HTML; its links as a header, too; of which version it is."""
     headers = {} if entries is None else {"gandovel-entries": str(entries)}
     if "links" in body:
-        headers["link"] = ", ".join(_header_of(it) for it in body["links"])
+        headers["link"] = _headers_of(body["links"])
     if kind_of(request) == "html":
         return HTMLResponse(html_of(title, body), headers=headers)
-    content = json.dumps(body, ensure_ascii=False, separators=(",", ":")).encode()
-    return Response(content, media_type=kind, headers=headers)
+    return Response(encoded(body), media_type=kind, headers=headers)
 
 
 def page_shown(request: Request, page: Page, title: str) -> Response:
     """A page of features, or a feature, with its projection as a header."""
-    response = shown(request, page.body, title, GEOJSON, page.entries)
-    response.headers["content-crs"] = f"<{page.crs}>"
-    return response
+    headers = {"gandovel-entries": str(page.entries), "link": _headers_of(page.links), "content-crs": f"<{page.crs}>"}
+    if kind_of(request) == "html":
+        return HTMLResponse(html_of(title, json.loads(page.content)), headers=headers)
+    return Response(page.content, media_type=GEOJSON, headers=headers)
 
 
-def versioned(body: Dict[str, Any], entries: int) -> Response:
+class Ready(Response):
+    """An answer of JSON whose headers are known, made with as little as may be: each `locate` is one."""
+
+    def __init__(self, body: bytes, entries: int) -> None:
+        self.status_code, self.background, self.body = 200, None, body
+        self.raw_headers = [
+            (b"content-type", b"application/json"),
+            (b"content-length", b"%d" % len(body)),
+            (b"gandovel-entries", b"%d" % entries),
+        ]
+
+
+def versioned(body: Union[bytes, Dict[str, Any]], entries: int) -> Response:
     """A body as JSON, and of which version it is."""
-    return JSONResponse(body, headers={"gandovel-entries": str(entries)})
+    content = body if isinstance(body, bytes) else encoded(body)
+    return Response(content, media_type="application/json", headers={"gandovel-entries": str(entries)})
+
+
+def _headers_of(links: Sequence[Dict[str, str]]) -> str:
+    return ", ".join(map(_header_of, links))
 
 
 def _header_of(link: Dict[str, str]) -> str:
     """A link as RFC 8288 has it."""
     address = link["href"].encode("ascii", "backslashreplace").decode()
     return f'<{address}>; rel="{link["rel"]}"; type="{link["type"]}"'
+
+
+def gone() -> Response:
+    """The answer where a body did not come whole: too long, too slow, or cut off."""
+    text = "a body has at most 1048576 bytes, and comes within 20 seconds"
+    return JSONResponse(as_json(413, "size", text), 413, {"connection": "close"})
 
 
 def answer_of(fault: Refused) -> Response:

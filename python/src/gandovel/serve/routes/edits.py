@@ -1,65 +1,70 @@
-"""Edits, by the framework or past it."""
+"""Edits: each is answered once the journal has it on the disk."""
 from __future__ import annotations
 
 import re
-from typing import Any, Dict, Optional
+from typing import Any, Awaitable, Dict, Optional, Tuple
 
-from fastapi import APIRouter, Header, Query, Request
+from fastapi import APIRouter, Request
 from fastapi.responses import Response
-from starlette.datastructures import Headers
+from pydantic import schema_of
 
 from ...errors import Refused
 from ...live.journals import MOST_WORD, Said
 from ..edit_bodies import EditBody, edit_of
-from ..entries import Asked
+from ..entries import Asked, Entry
 from ..faults import BadRequest, NotServing
 from ..models import EntryTold, Refusal, told_by
-from ..site import Site, answer_of
+from ..site import Site
+from .parameters import DirectRoute, only, parameter, site_of
 
 _KEY = re.compile(r"[\x21-\x7e]{1,100}")
-WHY = Query(None, description="the reason, where the body is text/plain")
-IF_MATCH = Header(None, description="the edit is made only where this entry is the newest")
-KEY = Header(None, description="an edit with this key is made once: 1 to 100 signs of ASCII, no space")
 _REFUSED = {
     409: "the edit is refused: its code is E1 to E12",
     412: "the register has gone on",
     413: "a body that is too long, or takes too long",
     422: "the key came with another edit",
 }
+ANSWERS = {
+    **told_by(EntryTold, text="the entry: with its digest, it is the clerk's receipt"),
+    **{it: {"model": Refusal, "description": text} for it, text in _REFUSED.items()},
+}
+router = APIRouter(tags=["Register"], route_class=DirectRoute)
 
 
-def router(site: Site) -> APIRouter:
-    """The route of edits."""
-    found = APIRouter(tags=["Register"])
-    told = {**told_by(EntryTold), **{it: {"model": Refusal, "description": text} for it, text in _REFUSED.items()}}
-
-    @found.post("/edits", summary="Makes an edit", openapi_extra=_body_told(), responses=told)
-    async def edit(
-        request: Request,
-        why: Optional[str] = WHY,
-        if_match: Optional[str] = IF_MATCH,
-        idempotency_key: Optional[str] = KEY,
-    ) -> Response:
-        """An edit as JSON, or a line of a clerk's file as text/plain. 200 comes once the journal has it on the disk."""
-        return await _made(site, request.state.client.name, request.headers, why, await request.body())
-
-    return found
+def edit_told() -> Dict[str, Any]:
+    """What the definition says of an edit's parameters and its body."""
+    schema = dict(schema_of(EditBody, title="Edit", ref_template="#/components/schemas/{model}"))
+    content = {"application/json": {"schema": schema}, "text/plain": {"schema": {"type": "string"}}}
+    key = "an edit with this key is made once: 1 to 100 signs of ASCII, no space"
+    parameters = [
+        parameter("why", "string", "the reason, where the body is text/plain"),
+        parameter("If-Match", "string", "the edit is made only where this entry is the newest", where="header"),
+        parameter("Idempotency-Key", "string", key, where="header"),
+    ]
+    return {"parameters": parameters, "requestBody": {"content": content, "required": True}}
 
 
-async def answered_edit(site: Site, name: str, headers: Headers, body: bytes) -> Response:
-    """The answer to an edit of this client's without a query, also where it is refused."""
+@router.post("/edits", summary="Makes an edit", openapi_extra=edit_told(), responses=ANSWERS)
+async def edit(request: Request) -> Response:
+    """An edit as JSON, or a line of a clerk's file as text/plain. 200 comes once the journal has it on the disk."""
+    line, reason = await body_of(request)
+    site, given = site_of(request), request.headers
+    asked = Asked(line, said_of(request.state.client.name, reason, key_of(given.get("idempotency-key"))))
+    return await made(site, site.register.submit(asked, at_of(given.get("if-match"))))
+
+
+async def body_of(request: Request) -> Tuple[str, str]:
+    """The edit that a request has, as a line, and its reason. Raises `BadRequest`."""
+    only(request, "why")
+    why = request.query_params.get("why")
+    return edit_of(await request.body(), request.headers.get("content-type", "application/json"), why)
+
+
+async def made(site: Site, submitted: Awaitable[Tuple[Entry, bool]]) -> Response:
+    """The answer to an edit that is under way. Raises as `Register.submit`."""
+    refused = site.metrics.refused
     try:
-        return await _made(site, name, headers, None, body)
-    except Refused as fault:
-        return answer_of(fault)
-
-
-async def _made(site: Site, name: str, given: Headers, why: Optional[str], body: bytes) -> Response:
-    line, reason = edit_of(body, given.get("content-type", "application/json"), why)
-    asked = Asked(line, _said(name, reason, _key(given.get("idempotency-key"))))
-    at, refused = _at(given.get("if-match")), site.metrics.refused
-    try:
-        entry, is_repeated = await site.register.submit(asked, at)
+        entry, is_repeated = await submitted
     except TimeoutError:
         refused.labels("unknown").inc()
         text = "whether the edit was made is not known yet: send it again with the same key"
@@ -75,23 +80,15 @@ async def _made(site: Site, name: str, given: Headers, why: Optional[str], body:
     return Response(entry.text.encode(), headers=headers, media_type="application/json")
 
 
-def _body_told() -> Dict[str, Any]:
-    """What the definition says of an edit's body, which the server reads itself."""
-    from pydantic import schema_of
-
-    schema = dict(schema_of(EditBody, title="Edit", ref_template="#/components/schemas/{model}"))
-    content = {"application/json": {"schema": schema}, "text/plain": {"schema": {"type": "string"}}}
-    return {"requestBody": {"content": content, "required": True}}
-
-
-def _key(text: Optional[str]) -> Optional[str]:
+def key_of(text: Optional[str]) -> Optional[str]:
+    """The key of a request. Raises `BadRequest`."""
     if text is None or _KEY.fullmatch(text):
         return text
     raise BadRequest("Idempotency-Key", "a key is 1 to 100 signs of ASCII without a space")
 
 
-def _said(name: str, why: str, key: Optional[str]) -> Said:
-    """What the journal's record has of a client."""
+def said_of(name: str, why: str, key: Optional[str]) -> Said:
+    """What the journal's record has of a client. Raises `BadRequest`."""
     said = Said(name, why, key)
     size = len(said.word.encode())
     if size > MOST_WORD:
@@ -100,8 +97,8 @@ def _said(name: str, why: str, key: Optional[str]) -> Said:
     return said
 
 
-def _at(text: Optional[str]) -> Optional[int]:
-    """The number of `If-Match`; None for any."""
+def at_of(text: Optional[str]) -> Optional[int]:
+    """The number of `If-Match`; None for any. Raises `BadRequest`."""
     if text is None or text.strip() == "*":
         return None
     found = re.fullmatch(r'\s*"?([0-9]{1,15})"?\s*', text)
