@@ -23,6 +23,7 @@ from .serve.command import add_commands, run_backup, run_serve
 if TYPE_CHECKING:
     from .out.report import Report
     from .progress import Progress
+    from .reading.prepared import Prepared
 
 NO_ANSWER = 4
 """The status of a command that gave no answer."""

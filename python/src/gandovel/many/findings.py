@@ -164,9 +164,7 @@ def _tell_faults(run: Run, summary: Summary, rows: Sequence[Row], refused: Seque
 
     faults = Faults()
     filed = {name for names in layers.misfiled.values() for name in names}
-    summary.untold = [
-        row.name for row in refused if row.name not in filed and not _add_faults(run, faults, row, rows)
-    ]
+    summary.untold = [row.name for row in refused if row.name not in filed and not _add_faults(run, faults, row, rows)]
     by_name = {row.name: row for row in rows} if layers.crossing else {}
     for city, several in layers.crossing.items():
         for it in several if by_name[city].part_of is None else ():  # a city within it has none that this one lacks
