@@ -297,7 +297,7 @@ def limited(town: Town, monkeypatch: pytest.MonkeyPatch, before: str) -> None:
 
 
 FULL_DISKS = {
-    "a limit of the file's size": "trap '' XFSZ\nulimit -f 1",
+    "a limit of the file's size": "ulimit -f 1",
     "a small disk": "mount -t tmpfs -o size=4k none $folder || exit 9",
 }
 

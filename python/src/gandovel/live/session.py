@@ -327,7 +327,9 @@ def _started(command: Sequence[str], errors: IO[bytes]) -> Tuple[subprocess.Pope
     inward, answers = os.pipe()
     wire = Wire(outward, inward)
     try:
-        return subprocess.Popen(command, stdin=lines, stdout=answers, stderr=errors), wire
+        # Signals that Python ignores stay so: a limit on files is a write that fails, and no end of the program.
+        process = subprocess.Popen(command, stdin=lines, stdout=answers, stderr=errors, restore_signals=False)
+        return process, wire
     except OSError as fault:
         wire.close()
         raise Refused("T1", f"the program {command[0]} can't be run: {fault.strerror}") from fault

@@ -122,7 +122,15 @@ def _begun(command: Sequence[str], errors: IO[bytes]) -> "Tuple[subprocess.Popen
     lines, outward = os.pipe()
     inward, answers = os.pipe()
     try:
-        process = subprocess.Popen(command, stdin=lines, stdout=answers, stderr=errors, preexec_fn=_end_with_parent)
+        # Signals that Python ignores stay so: a limit on files is a write that fails, and no end of the program.
+        process = subprocess.Popen(
+            command,
+            stdin=lines,
+            stdout=answers,
+            stderr=errors,
+            preexec_fn=_end_with_parent,
+            restore_signals=False,
+        )
     except OSError as fault:
         for end in (outward, inward):
             os.close(end)
