@@ -693,7 +693,7 @@ def test_refuses_what_is_no_report(
 ) -> None:
     source = tmp_path / "report.gpkg"
     make(source)
-    assert main(["map", str(source), "--out", str(tmp_path / "map.html")]) == 1
+    assert main(["map", str(source), "--out", str(tmp_path / "map.html")]) == 4
     printed = capsys.readouterr()
     assert printed.out == "" and re.fullmatch(r"error: (parcels: )?P1 .*\n", printed.err) and said in printed.err
     assert {it.name for it in tmp_path.iterdir()} <= {"report.gpkg"}
