@@ -574,7 +574,9 @@ def test_large_cities_do_not_share_a_job(tmp_path):
 def test_a_parallel_that_is_killed(tmp_path, monkeypatch):
     program(tmp_path, monkeypatch, f'case "$city" in */c0) kill -9 {JOB_OF}; sleep 600;; */c1) sleep 600;; esac')
     summary = run_many(write_cities(tmp_path, 3), tmp_path / "out", "parallel", jobs=2)
-    assert {it.code for it in summary.verdicts} == {"T7"}
+    # A program that goes with its engine may be reported by itself: it was killed (T4).
+    codes = {it.code for it in summary.verdicts}
+    assert "T7" in codes and codes <= {"T4", "T7"}
     until(lambda: not processes_of(tmp_path))
 
 

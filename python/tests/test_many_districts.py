@@ -208,22 +208,26 @@ def test_numbers_of_districts(tmp_path):
     parcels = read_rings(tmp_path / "in/d0/parcels.shp")
     parcels[1][parcels[1][:, 0] == 2 * SIDE, 0] += GAP
     write_rings(tmp_path / "in/d0/parcels.shp", parcels)
+    summary = run_many(manifest, tmp_path / "out")
+    assert summary.wholes[0].said == (
+        "does not tile: 1 of 2 districts tile; not d0 (H2); parcel b crosses districts d0 and d1; "
+        "parcels have the same number: a (d0, d1)"
+    )
+    frame = gpd.read_file(tmp_path / "out/faults.gpkg", layer="overlaps")
+    assert frame[["city", "records", "numbers"]].values.tolist() == [["d0", "2", "b"]]
     beside = read_rings(tmp_path / "in/d1/parcels.shp")
     beside[0][beside[0][:, 0] == 2 * SIDE, 0] += GAP
     write_rings(tmp_path / "in/d1/parcels.shp", beside)
     summary = run_many(manifest, tmp_path / "out")
     assert summary.wholes[0].said == (
-        "does not tile: 0 of 2 districts tile; not d0 (H2), d1 (H2); parcel b crosses districts d0 and d1; "
+        "all parcels tile, and the filing is wrong: the edges of d0, d1 cancel one another: parcel b of d0 lies in d1; "
         "parcels have the same number: a (d0, d1)"
     )
-    frame = gpd.read_file(tmp_path / "out/faults.gpkg", layer="overlaps")
-    assert frame[["city", "records", "numbers"]].values.tolist() == [["d0", "2", "b"]]
-    gaps = gpd.read_file(tmp_path / "out/faults.gpkg", layer="gaps")
-    assert gaps[["city", "numbers"]].values.tolist() == [["d1", "e,g"]]
+    assert summary.gaps == summary.overlaps == 0
     (crossing,) = gpd.read_file(tmp_path / "out/faults.gpkg", layer="crossings").itertuples()
     assert (crossing.city, crossing.district, crossing.other, crossing.number) == ("metropolis", "d0", "d1", "b")
     assert crossing.geometry.equals(Polygon(parcels[1] / 1000))
-    assert summary.lines()[-1].startswith("1 gap, 1 overlap, 1 parcel across districts: ")
+    assert summary.lines()[-1].startswith("1 parcel across districts: ")
 
 
 PLANTED = {

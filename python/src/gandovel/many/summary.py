@@ -218,6 +218,8 @@ def _with_numbers(whole: Whole, layers: Layers) -> Whole:
     if whole.kind == "refused":
         names = [f"parcel {it.number} crosses districts {it.district} and {it.other}" for it in crossing]
         return replace(whole, said="; ".join(filter(None, [whole.said, shortened(names), same])))
+    if whole.kind == "misfiled" and shared:
+        return replace(whole, said=f"{whole.said}; {same}")
     if whole.kind == "tiles" and shared:
         return replace(whole, kind="open", said=f"open: {same}")
     if whole.kind == "tiles" and whole.name in layers.not_overlaid:
