@@ -21,10 +21,11 @@ pub record IsTenfoldState (state other : State) : Type 0 where
   pub refined : AreTenTimes state.refined other.refined
   pub next : other.next ≡ state.next
 
--- so are the edit and the rows of an entry; its number, its clerk and the ids that it took out stay
+-- so are the edit and the rows of an entry; its number, its clerk, how many follow it and the ids that it took out stay
 pub record IsTenfoldEntry {A : Type 0} (entry other : JournalEntry A) : Type 0 where
   pub number : other.number ≡ entry.number
   pub clerk : other.clerk ≡ entry.clerk
+  pub following : other.following ≡ entry.following
   pub edit : IsTenfoldEdit entry.edit other.edit
   pub out : other.out ≡ entry.out
   pub rows : AllZip IsTenfoldRow entry.rows other.rows

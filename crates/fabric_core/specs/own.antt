@@ -10,3 +10,4 @@ pub mod Alike
 pub mod RingChanges
 pub mod Farthest
 pub mod RingSlices
+pub mod Plans

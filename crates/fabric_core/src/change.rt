@@ -20,7 +20,7 @@ use crate::edges::some_renewed_rows;
 use crate::journal::Row;
 use crate::refusal::Refusal;
 use crate::ring_change::RingChange;
-use crate::tiled::Tiled;
+use crate::plan::Plan;
 use geo_exact::{Corner, Corners};
 use ring_core::Shape;
 use ring_edits::{Edit, EditFault, is_bent, is_between, merge, shift, split};
@@ -52,7 +52,7 @@ impl From<EditFault> for Refusal {
 }
 
 /// The shape of a parcel that an edit names.
-fn here<'t, 'a, H: Allocator>(tiled: &'t Tiled<'a, H>, id: u64) -> Result<&'t Shape<&'a H>, Refusal>
+fn here<'t, 'a, H: Allocator>(tiled: &'t Plan<'_, 'a, H>, id: u64) -> Result<&'t Shape<&'a H>, Refusal>
     ensures ok { IfOk result (λ shape. Contains tiled.now.rows (numbered id shape.now.ring.corners)) }
     ensures err { IfErr result (λ refusal. IsGone tiled.now id refusal) }
 {
@@ -63,7 +63,7 @@ fn here<'t, 'a, H: Allocator>(tiled: &'t Tiled<'a, H>, id: u64) -> Result<&'t Sh
 }
 
 /// Why an id that is no parcel's is refused.
-fn gone<'a, H: Allocator>(tiled: &Tiled<'a, H>, id: u64) -> Refusal
+fn gone<'a, H: Allocator>(tiled: &Plan<'_, 'a, H>, id: u64) -> Refusal
     ensures { IsTold tiled.now id result }
 {
     match tiled.gone_by(id) {
@@ -113,7 +113,7 @@ fn two_rows<A: Allocator>(
 /// A parcel cut in two along a path.
 fn split_change<'a, H: Allocator>(
     alloc: &'a H,
-    tiled: &Tiled<'a, H>,
+    tiled: &Plan<'_, 'a, H>,
     next: u64,
     id: u64,
     path: &[Corner],
@@ -141,7 +141,7 @@ fn split_change<'a, H: Allocator>(
 /// Two neighbours made one parcel.
 fn merge_change<'a, H: Allocator>(
     alloc: &'a H,
-    tiled: &Tiled<'a, H>,
+    tiled: &Plan<'_, 'a, H>,
     next: u64,
     a: u64,
     b: u64,
@@ -170,7 +170,7 @@ fn merge_change<'a, H: Allocator>(
 /// Two neighbours with the border between them moved to a path.
 fn move_change<'a, H: Allocator>(
     alloc: &'a H,
-    tiled: &Tiled<'a, H>,
+    tiled: &Plan<'_, 'a, H>,
     next: u64,
     a: u64,
     b: u64,
@@ -209,7 +209,7 @@ fn ids_of<A: Allocator>(alloc: A, rows: &[Row<A>]) -> Result<Vec<u64, A>, AllocE
 /// A corner put into an edge of the parcels that have it.
 fn insert_change<'a, H: Allocator>(
     alloc: &'a H,
-    tiled: &Tiled<'a, H>,
+    tiled: &Plan<'_, 'a, H>,
     from: Corner,
     to: Corner,
     at: Corner,
@@ -235,7 +235,7 @@ fn insert_change<'a, H: Allocator>(
 }
 
 /// The least of these ids whose parcel's ring bends at the corner; the ids are those of the parcels that have it.
-fn first_bent<'a, H: Allocator>(tiled: &Tiled<'a, H>, ids: &[u64], at: Corner) -> Option<u64>
+fn first_bent<'a, H: Allocator>(tiled: &Plan<'_, 'a, H>, ids: &[u64], at: Corner) -> Option<u64>
     requires { ids.now ≡ numbers (rows_at_corner at tiled.now.rows) }
     ensures bent { IfSome result (λ id. IsFirstBent tiled.now.rows at id) }
     ensures straight { IfNone result (AllByRecursion (λ row. ¬ BendsAt at row.corners) tiled.now.rows) }
@@ -256,7 +256,7 @@ fn first_bent<'a, H: Allocator>(tiled: &Tiled<'a, H>, ids: &[u64], at: Corner) -
 /// nor does the city's refined ring: it is simple, and goes round each place as often as they do.
 fn straighten_change<'a, H: Allocator>(
     alloc: &'a H,
-    tiled: &Tiled<'a, H>,
+    tiled: &Plan<'_, 'a, H>,
     at: Corner,
 ) -> Result<Change<&'a H>, Refusal>
     requires in_area { AllByRecursion (λ row. All (HoldsCorner tiled.now.index.area) row.corners) tiled.now.rows }
@@ -282,7 +282,7 @@ fn straighten_change<'a, H: Allocator>(
 /// paths, borders, edges and corners.
 pub(crate) fn change_of<'a, H: Allocator>(
     alloc: &'a H,
-    tiled: &Tiled<'a, H>,
+    tiled: &Plan<'_, 'a, H>,
     next: u64,
     edit: &Edit<&'a H>,
 ) -> Result<Change<&'a H>, Refusal>

@@ -16,6 +16,7 @@ use crate::new_limits::{corners_after, is_within};
 use crate::new_shapes::simple_shapes;
 use crate::refusal::Refusal;
 use crate::tiled::Tiled;
+use crate::plan::Plan;
 use ring_core::Shape;
 use ring_edits::Edit;
 use std::alloc::Allocator;
@@ -31,12 +32,14 @@ pub(crate) struct Draft<A: Allocator> {
     pub corners: usize,
 }
 
-/// The draft of an edit of parcels that have so many corners now, or why it is refused. Nothing is changed.
+/// The draft of an edit on what is planned of parcels, which have so many corners then, or why it is refused. Nothing is
+/// changed.
 pub(crate) fn draft_of<'a, H: Allocator>(
-    tiled: &Tiled<'a, H>,
+    tiled: &Plan<'_, 'a, H>,
     corners: usize,
     number: u64,
     clerk: u32,
+    following: u32,
     edit: &Edit<&'a H>,
 ) -> Result<Draft<&'a H>, Refusal>
     requires counted { corners ≡ corner_count tiled.now.rows }
@@ -45,6 +48,7 @@ pub(crate) fn draft_of<'a, H: Allocator>(
     ensures is_entry { IfOk result (λ draft. IsEntryOf (state_of tiled.now) draft.entry) }
     ensures number { IfOk result (λ draft. draft.entry.number ≡ number) }
     ensures clerk { IfOk result (λ draft. draft.entry.clerk ≡ clerk) }
+    ensures following { IfOk result (λ draft. draft.entry.following ≡ following) }
     ensures edit { IfOk result (λ draft. draft.entry.edit ≡ edit.now) }
     ensures here { IfOk result (λ _. AreParcels tiled.now.rows (named_ids edit.now)) }
     ensures shapes { IfOk result (λ draft. rings_of_shapes draft.shapes.items ≡ corner_lists draft.entry.rows) }
@@ -64,8 +68,36 @@ pub(crate) fn draft_of<'a, H: Allocator>(
     let edit = edit.clone()?;
     let Change { out, rows } = change;
     Ok(Draft {
-        entry: Entry::new(number, clerk, edit, out, rows),
+        entry: Entry::new(number, clerk, following, edit, out, rows),
         shapes,
         corners,
     })
+}
+
+/// The draft of an edit of parcels for which nothing else is planned.
+pub(crate) fn draft_alone<'a, H: Allocator>(
+    tiled: &Tiled<'a, H>,
+    corners: usize,
+    number: u64,
+    clerk: u32,
+    following: u32,
+    edit: &Edit<&'a H>,
+) -> Result<Draft<&'a H>, Refusal>
+    requires counted { corners ≡ corner_count tiled.now.rows }
+    requires small { tiled.now.next + 1 < 2 ^ 64 }
+    requires place { number ≤ JOURNAL_ENTRIES }
+    ensures is_entry { IfOk result (λ draft. IsEntryOf (state_of tiled.now) draft.entry) }
+    ensures number { IfOk result (λ draft. draft.entry.number ≡ number) }
+    ensures clerk { IfOk result (λ draft. draft.entry.clerk ≡ clerk) }
+    ensures following { IfOk result (λ draft. draft.entry.following ≡ following) }
+    ensures edit { IfOk result (λ draft. draft.entry.edit ≡ edit.now) }
+    ensures here { IfOk result (λ _. AreParcels tiled.now.rows (named_ids edit.now)) }
+    ensures shapes { IfOk result (λ draft. rings_of_shapes draft.shapes.items ≡ corner_lists draft.entry.rows) }
+    ensures corners { IfOk result (λ draft. draft.corners
+        ≡ corner_count (after_entry (state_of tiled.now) draft.entry).rows) }
+    ensures err { IfErr result (λ refusal. IsDraftRefusal tiled.now edit.now refusal ⊎ (refusal ≡ NoMemory)) }
+    ensures memory { IsErrOf result NoMemory → AsksMemory (state_of tiled.now) edit.now }
+{
+    let plan = Plan::new(tiled, corners);
+    draft_of(&plan, corners, number, clerk, following, edit)
 }

@@ -8,13 +8,13 @@ ghost use Rattle.fabric_core.specs.own.RingChanges.{HasTwoEnds, is_changed, rene
 
 use crate::journal::Row;
 use crate::ring_change::RingChange;
-use crate::tiled::Tiled;
+use crate::plan::Plan;
 use std::alloc::{AllocError, Allocator};
 
 /// The parcels that are changed, after the change, by ascending id.
 fn renewed_rows<'a, H: Allocator>(
     alloc: &'a H,
-    tiled: &Tiled<'a, H>,
+    tiled: &Plan<'_, 'a, H>,
     change: RingChange,
 ) -> Result<Vec<Row<&'a H>, &'a H>, AllocError>
     requires two_ends { HasTwoEnds change }
@@ -23,9 +23,8 @@ fn renewed_rows<'a, H: Allocator>(
         ≡ map (renewed change) (rows_changed change tiled.now.rows)) }
 {
     tiled.use_invariant();
-    let _ids = tiled.ids();
     let corner = change.corner();
-    let ids = tiled.candidates(corner, corner)?;
+    let ids = tiled.near(corner)?;
     let mut rows = Vec::new(alloc);
     for id in &ids {
         let Some(shape) = tiled.shape(*id) else {
@@ -41,22 +40,10 @@ fn renewed_rows<'a, H: Allocator>(
     Ok(rows)
 }
 
-/// Whether any parcel is changed. It takes no memory: each parcel is looked at, and not those of a cell alone.
-fn is_any_changed<'a, H: Allocator>(tiled: &Tiled<'a, H>, change: RingChange) -> bool
-    ensures { result ≡ list_any (λ row. is_changed change row.corners) tiled.now.rows }
-{
-    for (_, shape) in tiled.shapes() {
-        if change.changes(shape.ring.corners.as_slice()) {
-            return true;
-        }
-    }
-    false
-}
-
 /// The same as `renewed_rows`, or `None` where no parcel is changed, which is told whatever memory there is.
 pub(crate) fn some_renewed_rows<'a, H: Allocator>(
     alloc: &'a H,
-    tiled: &Tiled<'a, H>,
+    tiled: &Plan<'_, 'a, H>,
     change: RingChange,
 ) -> Result<Option<Vec<Row<&'a H>, &'a H>>, AllocError>
     requires two_ends { HasTwoEnds change }
@@ -71,7 +58,7 @@ pub(crate) fn some_renewed_rows<'a, H: Allocator>(
         Ok(rows) if rows.is_empty() => Ok(None),
         Ok(rows) => Ok(Some(rows)),
         // It takes no memory to see that no parcel is changed; it takes longer, and so it comes last.
-        Err(_) if !is_any_changed(tiled, change) => Ok(None),
+        Err(_) if !tiled.is_any_changed(change) => Ok(None),
         Err(error) => Err(error),
     }
 }

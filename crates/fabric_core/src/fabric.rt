@@ -1,6 +1,7 @@
 //! The fabric: a layer that clerks edit, with its journal.
 
-ghost use Rattle.std.specs.Prelude.{◌≡◌, ◌≢◌, ◌⊎◌, ◌↔◌, ◌+◌, ◌≤◌, ◌≤ℤ◌, ℕ, List, [], ◌∷◌, ◌++◌, length, map, IfOk};
+ghost use Rattle.std.specs.Prelude.{◌≡◌, ◌≢◌, ◌⊎◌, ◌↔◌, ◌+◌, ◌<◌, ◌≤◌, ◌≤ℤ◌, ℕ, List, [], ◌∷◌, ◌++◌};
+ghost use Rattle.std.specs.Prelude.{length, map, IfOk};
 ghost use Rattle.std.specs.Prelude.{IfErr, IsErrAnd, IsErrOf, IsOk, OnOk, OnErr, MatchOption};
 ghost use Rattle.std.specs.List.{All, Contains};
 ghost use Rattle.std.specs.List.Sorted.{IsStrictlyIncreasing};
@@ -23,6 +24,8 @@ ghost use Rattle.fabric_core.specs.GridIndex.{IsIndexed, IsCandidate};
 ghost use Rattle.fabric_core.specs.Locate.{IsLocatedAt};
 ghost use Rattle.fabric_core.specs.Journal.{opening_state, after_entry, replay};
 ghost use Rattle.fabric_core.specs.EditResults.{IsEntryOf, IsLawful, IsDue};
+ghost use Rattle.fabric_core.specs.Transactions.{AreDue, IsFirstRefused, IsTransaction};
+ghost use Rattle.fabric_core.specs.declared.journal.TheConstants.{TRANSACTION_EDITS};
 ghost use Rattle.fabric_core.specs.declared.follow.FollowFault.TheVariants.{NotDue, NoMemory as NoRoom};
 ghost use Rattle.fabric_core.specs.Refusals.{IsCityBent, IsFirstBent, IsRefusal, NeedsNoMemory};
 ghost use Rattle.geo_exact.specs.declared.corner.Corner.{Corner as CornerValue};
@@ -31,7 +34,7 @@ ghost use Rattle.fabric_core.specs.declared.tenfold.ScaleFault.TheVariants.{TooF
 ghost use Rattle.fabric_core.specs.Tenfold.{IsScaleFault, IsTenfoldBook, corners_of_book};
 
 use crate::carry_out::carry_out;
-use crate::draft::draft_of;
+use crate::draft::draft_alone;
 use crate::follow::FollowFault;
 use crate::journal::{Entry, JOURNAL_ENTRIES};
 use crate::layer::Layer;
@@ -40,6 +43,7 @@ use crate::opening::{Opening, count_corners};
 use crate::refusal::Refusal;
 use crate::tenfold::{ScaleFault, least_far_of_entries, tenfold_entries};
 use crate::tiled::Tiled;
+use crate::transaction::{RefusedEdit, carry_out_all, plan_all, plan_followed};
 use geo_exact::Corner;
 use parcel_table::{Ids, Shapes};
 use ring_core::{Ring, Shape};
@@ -371,10 +375,92 @@ impl<'a, H: Allocator> Fabric<'a, H> {
             return Err(Refusal::JournalFull);
         }
         let number = self.journal.len() as u64 + 1;
-        let draft = draft_of(&self.tiled, self.corners, number, clerk, edit)?;
+        let draft = draft_alone(&self.tiled, self.corners, number, clerk, 0, edit)?;
         let entry = draft.entry.clone()?;
         self.corners = carry_out(&mut self.tiled, &mut self.journal, draft)?;
         Ok(entry)
+    }
+
+    /// Makes several edits as one: each in the state that those before it lead to, and the journal gets their entries;
+    /// or none of them. The time is that of its edits, and does not grow with the other parcels.
+    ///
+    /// They are planned aside, and made at once where none is refused: there is no moment at which some are made.
+    ///
+    /// # Errors
+    ///
+    /// The first edit that is refused, by its place from 1, with what [`Fabric::edit`] would refuse it for in that state;
+    /// nothing has changed then. Where an allocation fails once all are planned, it is [`Refusal::NoMemory`] at the last.
+    ///
+    /// ```
+    /// // Of parcels 1 and 2, neighbours: 3 comes and goes again.
+    /// let entries = fabric.edit_all(clerk, &[Edit::Merge { a: 1, b: 2 }, Edit::Split { id: 3, path }])?;
+    /// ```
+    pub fn edit_all(
+        &mut self,
+        clerk: u32,
+        edits: &[Edit<&'a H>],
+    ) -> Result<Vec<Entry<&'a H>, &'a H>, RefusedEdit>
+        requires some { 0 < length edits.now }
+        requires few { length edits.now ≤ TRANSACTION_EDITS }
+        // Accepted edits: the entries are those of the transaction of these edits by this clerk on the state before.
+        ensures made { IfOk result (λ entries.
+            IsTransaction self.old.now (length self.old.journal + 1) clerk edits.now entries.items) }
+        // They change the state as the journal's replay does, and stand last in the journal.
+        ensures now { IfOk result (λ entries. self.new.now ≡ replay self.old.now entries.items) }
+        ensures journal { IfOk result (λ entries. self.new.journal ≡ self.old.journal ++ entries.items) }
+        ensures city { self.new.city ≡ self.old.city }
+        ensures opening { self.new.opening ≡ self.old.opening }
+        // Where one is refused, nothing has changed, and it is the first that is.
+        ensures unchanged { OnErr result (self.new ≡ self.old) }
+        ensures refusal { IfErr result (λ refused.
+            IsFirstRefused self.old.now self.old.journal clerk edits.now refused.place refused.refusal
+            ⊎ (refused.refusal ≡ NoMemory)) }
+        ensures refuses { (place : ℕ) (refusal : Refusal)
+            → IsFirstRefused self.old.now self.old.journal clerk edits.now place refusal
+            → IsErrAnd result (λ e. ((e.place ≡ place) × (e.refusal ≡ refusal)) ⊎ (e.refusal ≡ NoMemory)) }
+        // Memory runs out at an edit that nothing refuses which is told whatever memory there is, and at none behind the
+        // first that is refused.
+        ensures exact { (place : ℕ) (refusal : Refusal)
+            → IsFirstRefused self.old.now self.old.journal clerk edits.now place refusal
+            → IfErr result (λ e. (e.place ≤ place) × (e.place ≡ place → NeedsNoMemory refusal → e.refusal ≡ refusal)) }
+    {
+        let journaled = self.journal.len();
+        let net = plan_all(&self.tiled, self.corners, journaled, clerk, edits)?;
+        let last = RefusedEdit {
+            place: edits.len() as u32,
+            refusal: Refusal::NoMemory,
+        };
+        let Ok(entries) = net.entries.clone() else {
+            return Err(last);
+        };
+        match carry_out_all(&mut self.tiled, &mut self.journal, net) {
+            Ok(corners) => {
+                self.corners = corners;
+                Ok(entries)
+            }
+            Err(_) => Err(last),
+        }
+    }
+
+    /// Makes the edits of a transaction that another fabric's journal has, if its entries are due here, all of them or
+    /// none. So a copy follows its original, and is never inside a transaction.
+    ///
+    /// # Errors
+    ///
+    /// As [`Fabric::follow`]; nothing has changed then.
+    pub fn follow_all(&mut self, entries: &[Entry<&'a H>]) -> Result<(), FollowFault>
+        ensures due { OnOk result (AreDue self.old entries.now) }
+        ensures now { OnOk result (self.new.now ≡ replay self.old.now entries.now) }
+        ensures journal { OnOk result (self.new.journal ≡ self.old.journal ++ entries.now) }
+        ensures city { self.new.city ≡ self.old.city }
+        ensures opening { self.new.opening ≡ self.old.opening }
+        ensures unchanged { OnErr result (self.new ≡ self.old) }
+        ensures fault { IfErr result (λ fault. ((fault ≡ NotDue) × (¬ AreDue self.old entries.now)) ⊎ (fault ≡ NoRoom)) }
+    {
+        let journaled = self.journal.len();
+        let net = plan_followed(&self.tiled, self.corners, journaled, entries)?;
+        self.corners = carry_out_all(&mut self.tiled, &mut self.journal, net)?;
+        Ok(())
     }
 
     /// Makes the edit of an entry that another fabric's journal has, if the entry is due here: if it
@@ -402,11 +488,12 @@ impl<'a, H: Allocator> Fabric<'a, H> {
         if number != entry.number() {
             return Err(FollowFault::NotDue);
         }
-        let drafted = draft_of(
+        let drafted = draft_alone(
             &self.tiled,
             self.corners,
             number,
             entry.clerk(),
+            entry.following(),
             entry.edit(),
         );
         let draft = match drafted {

@@ -237,7 +237,7 @@ impl<'a, H: Allocator> Hints<'a, H> {
     }
 
     /// Tells of the shape that a parcel has or gets.
-    fn tell(&mut self, parcels: &Parcels<&'a H>, id: u64, shape: &Shape<&'a H>) {
+    pub(crate) fn tell(&mut self, parcels: &Parcels<&'a H>, id: u64, shape: &Shape<&'a H>) {
         if let Fate::Here(key) = parcels.fate(id) {
             self.set(shape.core, key);
         }

@@ -13,6 +13,9 @@ use std::marker::Model;
 /// with a place for each stays small.
 pub const JOURNAL_ENTRIES: usize = 1_048_576;
 
+/// The most edits of a transaction, 2 ^ 10: a plan of subdivision has some hundreds, and their line is still one to read.
+pub const TRANSACTION_EDITS: usize = 1_024;
+
 /// A parcel as a journal has it: its ring under its id. Corners are in whole millimetres.
 #[derive(Debug, Drop)]
 pub struct Row<A: Allocator> {
@@ -42,6 +45,7 @@ impl<A: Allocator + Copy> Clone for Row<A> {
 pub struct Entry<A: Allocator> {
     number: u64,
     clerk: u32,
+    following: u32,
     edit: Edit<A>,
     out: Vec<u64, A>,
     rows: Vec<Row<A>, A>,
@@ -53,6 +57,7 @@ impl<A: Allocator> Drop for Entry<A> {
         let Entry {
             number: _,
             clerk: _,
+            following: _,
             edit: _,
             out: _,
             rows: _,
@@ -70,6 +75,7 @@ impl<A: Allocator> Model for Entry<A> {
     ghost view = { λ entry. record {
       number = entry.number;
       clerk = entry.clerk;
+      following = entry.following;
       edit = entry.edit;
       out = entry.out.items;
       rows = map row_of entry.rows.items;
@@ -81,12 +87,14 @@ impl<A: Allocator> Entry<A> {
     pub(crate) fn new(
         number: u64,
         clerk: u32,
+        following: u32,
         edit: Edit<A>,
         out: Vec<u64, A>,
         rows: Vec<Row<A>, A>,
     ) -> Entry<A>
         ensures number { result.number ≡ number }
         ensures clerk { result.clerk ≡ clerk }
+        ensures following { result.following ≡ following }
         ensures edit { result.edit ≡ edit }
         ensures out { result.out ≡ out.items }
         ensures rows { result.rows ≡ map row_of rows.items }
@@ -94,6 +102,7 @@ impl<A: Allocator> Entry<A> {
         Entry {
             number,
             clerk,
+            following,
             edit,
             out,
             rows,
@@ -112,6 +121,13 @@ impl<A: Allocator> Entry<A> {
         ensures { result ≡ self.now.clerk }
     {
         self.clerk
+    }
+
+    /// How many entries of its transaction follow it: 0 where the transaction ends with it.
+    pub fn following(&self) -> u32
+        ensures { result ≡ self.now.following }
+    {
+        self.following
     }
 
     /// The edit.
@@ -155,6 +171,7 @@ impl<A: Allocator + Copy> Clone for Entry<A> {
         Ok(Entry {
             number: self.number,
             clerk: self.clerk,
+            following: self.following,
             edit,
             out,
             rows,

@@ -12,19 +12,19 @@ ghost use Rattle.fabric_core.specs.own.Changes.{AddWithin};
 
 use crate::change::Change;
 use crate::journal::Row;
-use crate::tiled::Tiled;
+use crate::plan::Plan;
 use geo_exact::{LAYER_CORNERS, LAYER_RECORDS, RING_CORNERS};
 use std::alloc::Allocator;
 
 /// How many corners the parcels have that stay where others go.
-fn corners_left<'a, H: Allocator>(tiled: &Tiled<'a, H>, out: &[u64], corners: usize) -> usize
+fn corners_left<'a, H: Allocator>(tiled: &Plan<'_, 'a, H>, out: &[u64], corners: usize) -> usize
     requires corners { corners ≡ corner_count tiled.now.rows }
     requires here { (id : ℕ) → Contains out.now id → Contains (numbers tiled.now.rows) id }
     requires apart { AllPairs (λ a b. a ≢ b) out.now }
     ensures corners { result ≡ corner_count (without_ids out.now tiled.now.rows) }
     ensures number { length (without_ids out.now tiled.now.rows) + length out.now ≡ length tiled.now.rows }
 {
-    let _ids = tiled.ids();
+    tiled.use_invariant();
     let mut left = corners;
     for id in out {
         let Some(shape) = tiled.shape(*id) else {
@@ -57,7 +57,7 @@ fn add_within<A: Allocator>(rows: &[Row<A>], corners: usize, parcels: usize) -> 
 
 /// Whether what a change makes of the parcels, which have so many corners now, keeps to the limits of a layer.
 pub(crate) fn is_within<'a, H: Allocator>(
-    tiled: &Tiled<'a, H>,
+    tiled: &Plan<'_, 'a, H>,
     change: &Change<&'a H>,
     corners: usize,
 ) -> bool
@@ -70,7 +70,7 @@ pub(crate) fn is_within<'a, H: Allocator>(
 {
     tiled.use_invariant();
     let left = corners_left(tiled, &change.out, corners);
-    let parcels = tiled.ids().len() - change.out.len();
+    let parcels = tiled.len() - change.out.len();
     add_within(&change.rows, left, parcels)
 }
 
@@ -88,7 +88,7 @@ fn count<A: Allocator>(rows: &[Row<A>]) -> usize
 
 /// How many corners the parcels have after a change that keeps to the limits, where they have so many now.
 pub(crate) fn corners_after<'a, H: Allocator>(
-    tiled: &Tiled<'a, H>,
+    tiled: &Plan<'_, 'a, H>,
     change: &Change<&'a H>,
     corners: usize,
 ) -> usize

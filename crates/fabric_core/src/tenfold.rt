@@ -113,7 +113,8 @@ fn tenfold_entry<A: Allocator + Copy>(alloc: A, entry: &Entry<A>) -> Result<Entr
     let edit = tenfold_edit(alloc, entry.edit())?;
     let out = Vec::from_slice(alloc, entry.out())?;
     let rows = tenfold_rows(alloc, entry.rows())?;
-    Ok(Entry::new(entry.number(), entry.clerk(), edit, out, rows))
+    let (number, clerk, following) = (entry.number(), entry.clerk(), entry.following());
+    Ok(Entry::new(number, clerk, following, edit, out, rows))
 }
 
 /// The entries, each corner ten times.

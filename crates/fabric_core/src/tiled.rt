@@ -1,8 +1,9 @@
 //! Parcels that tile a city, with their index, as layers, fabrics and sheets have them.
 
 ghost use Rattle.std.specs.Prelude.{◌≡◌, ◌≢◌, ◌↔◌, ◌+◌, ◌≤◌, ◌≤ℤ◌, ℕ, List, [], ◌∷◌, ◌++◌, length, map, IfOk, IfSome};
-ghost use Rattle.std.specs.Prelude.{OnOk, OnErr, MatchOption};
-ghost use Rattle.std.specs.List.{All, AllByRecursion, Contains};
+ghost use Rattle.std.specs.Prelude.{OnOk, OnErr, MatchOption, nat_lt, take};
+ghost use Rattle.std.specs.Borrow.{Bor};
+ghost use Rattle.std.specs.List.{All, AllByRecursion, Contains, filter};
 ghost use Rattle.std.specs.List.Sorted.{IsStrictlyIncreasing};
 ghost use Rattle.geo_exact.specs.declared.corner.Corner.{Corner, Corner as CornerValue};
 ghost use Rattle.geo_exact.specs.Point.{corner_point};
@@ -16,7 +17,8 @@ ghost use Rattle.fabric_core.specs.Limits.{AreWithinLimits};
 ghost use Rattle.fabric_core.specs.GridIndex.{IsIndexed, IsCandidate};
 ghost use Rattle.fabric_core.specs.Locate.{IsInsideOf, IsLocatedAt};
 ghost use Rattle.fabric_core.specs.own.Checks.{HaveNoFault, IsChecked};
-ghost use Rattle.fabric_core.specs.Journal.{without_ids};
+ghost use Rattle.fabric_core.specs.Journal.{JournalEntry, replay, without_ids};
+ghost use Rattle.fabric_core.specs.own.Plans.{AreMade, AreTurns, ring_or};
 ghost use Rattle.fabric_core.specs.own.Balanced.{IsBalanced};
 ghost use Rattle.fabric_core.specs.own.Changes.{state_of};
 ghost use Rattle.fabric_core.specs.own.Kept.{gone_by, IsExchanged, IsFresh, MayBeKept};
@@ -32,6 +34,7 @@ use crate::candidates::{ids_under, sort_once};
 use crate::grid_index::enter_all;
 use crate::hints::Hints;
 use crate::locate::{At, on_edge_or_outside, search};
+use crate::plan::Turn;
 use crate::ring_change::RingChange;
 use crate::tenfold::{least_beyond_of_shapes, tenfold_shapes};
 use cell_index::{CellIndex, IndexEntry};
@@ -338,6 +341,18 @@ fn change_ring<A: Allocator>(ring: &mut Corners<A>, other: Option<Corners<A>>)
     }
 }
 
+/// Takes back so many ids that were given out last, with their parcels.
+fn take_back<A: Allocator>(parcels: &mut Parcels<A>, many: usize)
+    requires { many ≤ parcels.old.next }
+    ensures next { parcels.new.next + many ≡ parcels.old.next }
+    ensures parcels { parcels.new.parcels ≡ filter (λ parcel. nat_lt parcel.1.id parcels.new.next) parcels.old.parcels }
+    ensures fates { parcels.new.fates ≡ take parcels.new.next parcels.old.fates }
+{
+    for _ in 0..many {
+        parcels.take_back();
+    }
+}
+
 /// Exchanges the shapes of parcels, whose ids and keys stay.
 fn replace_all<A: Allocator>(parcels: &mut Parcels<A>, ids: &[u64], shapes: Vec<Shape<A>, A>)
     requires same_length { length ids.now ≡ length shapes.items }
@@ -499,6 +514,81 @@ impl<'a, H: Allocator> Tiled<'a, H> {
 }
 
 impl<'a, H: Allocator> Tiled<'a, H> {
+    /// Makes all that several edits change, at once: those of the parcels that go or get another shape, what becomes of
+    /// the next ids, and the city's refined ring, where it is changed. Where an allocation fails, nothing has changed.
+    pub(crate) fn exchange(
+        &mut self,
+        old: Vec<(u64, Turn<&'a H>), &'a H>,
+        new: Vec<Turn<&'a H>, &'a H>,
+        refined: Option<Corners<&'a H>>,
+    ) -> Result<(), AllocError>
+        ghost entries: { List (JournalEntry (Bor H)) }
+        requires balanced { IsBalanced (replay (state_of self.old) entries) }
+        requires within { AreWithinLimits (replay (state_of self.old) entries).rows }
+        requires turns { AreTurns self.old entries old.items new.items }
+        requires ring { ring_or refined self.old.refined ≡ (replay (state_of self.old) entries).refined }
+        ensures made { OnOk result (AreMade self.old self.new entries) }
+        ensures unchanged { OnErr result (self.new ≡ self.old) }
+    {
+        self.parcels.use_invariant();
+        let heap = self.allocator();
+        let mut leaving = Vec::with_capacity(heap, old.len())?;
+        let mut changed = Vec::with_capacity(heap, old.len())?;
+        let gone = self.entries_gone(&old)?;
+        let mut come = Vec::with_capacity(heap, new.len())?;
+        let mut cores = Vec::with_capacity(heap, new.len())?;
+        let many = new.len();
+        self.parcels.reserve(many)?;
+        for turn in new {
+            match turn {
+                Turn::Gone(by) => self.parcels.push_retired(by),
+                Turn::Here(shape) => {
+                    let (bounds, core) = (shape.bounds, shape.core);
+                    let key = self.parcels.push_reserved(shape);
+                    come.push_reserved(IndexEntry { key, bounds });
+                    cores.push_reserved(core);
+                }
+            }
+        }
+        if self.index.change(&gone, &come).is_err() {
+            take_back(&mut self.parcels, many);
+            return Err(AllocError);
+        }
+        for (id, turn) in old {
+            match turn {
+                Turn::Gone(by) => leaving.push_reserved((id, by)),
+                Turn::Here(shape) => changed.push_reserved((id, shape)),
+            }
+        }
+        for (entry, core) in come.iter().zip(cores) {
+            self.hints.set(core, entry.key);
+        }
+        for (id, by) in leaving {
+            self.parcels.retire(id, by);
+        }
+        for (id, shape) in changed {
+            self.hints.tell(&self.parcels, id, &shape);
+            self.parcels.replace(id, shape);
+        }
+        change_ring(&mut self.refined, refined);
+        self.parcels.use_invariant();
+        Ok(())
+    }
+
+    /// The entries that the parcels which go have in the index.
+    fn entries_gone(
+        &self,
+        old: &[(u64, Turn<&'a H>)],
+    ) -> Result<Vec<IndexEntry, &'a H>, AllocError> {
+        let mut gone = Vec::with_capacity(self.allocator(), old.len())?;
+        for (id, turn) in old {
+            if let Turn::Gone(_) = turn {
+                gone.push(entry_of(&self.parcels, *id))?;
+            }
+        }
+        Ok(gone)
+    }
+
     /// The least corner of the parcels and of the city's refined ring that is further from 0 along an axis, and of one
     /// found before.
     pub(crate) fn least_beyond(&self, most: u64, found: Option<Corner>) -> Option<Corner>

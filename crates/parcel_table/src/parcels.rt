@@ -1,6 +1,7 @@
 //! The table of parcels: ids, shapes, and the keys of the index.
 
-ghost use Rattle.std.specs.Prelude.{◌≡◌, ◌≢◌, ◌+◌, ◌<◌, ◌≤◌, ℕ, [], ◌∷◌, ◌++◌, length, Some, None, IfOk, OnOk, OnErr};
+ghost use Rattle.std.specs.Prelude.{◌≡◌, ◌≢◌, ◌+◌, ◌-◌, ◌<◌, ◌≤◌, ℕ, List, [], ◌∷◌, ◌++◌, length, Option, Some, None};
+ghost use Rattle.std.specs.Prelude.{IfOk, OnOk, OnErr};
 ghost use Rattle.std.specs.Prelude.{MatchOption, slice_set};
 ghost use Rattle.std.specs.List.{Contains};
 ghost use Rattle.std.specs.List.Sorted.{IsStrictlyIncreasing};
@@ -193,6 +194,31 @@ impl<A: Allocator> Parcels<A> {
         self.slab[key] = Parcel { id: next, shape };
         self.places[id as usize] = Place::Retired(by);
         self.places.push_reserved(Place::Here(key));
+    }
+
+    /// Gives out the next id to a parcel that was retired by a number before it could be put in, where there is room.
+    pub fn push_retired(&mut self, by: u64)
+        requires { 1 ≤ self.old.room }
+        ensures parcels { self.new.parcels ≡ self.old.parcels }
+        ensures next { self.new.next ≡ self.old.next + 1 }
+        ensures fates { self.new.fates ≡ self.old.fates ++ Some by ∷ [] }
+        ensures vacant { self.new.vacant ≡ self.old.vacant }
+        ensures room { self.old.room ≤ self.new.room + 1 }
+    {
+        self.places.push_reserved(Place::Retired(by));
+    }
+
+    /// Takes the id back that was given out last, with the parcel that has it, where it is here; the room stays.
+    pub fn take_back(&mut self)
+        requires { 1 ≤ self.old.next }
+        ensures parcels { self.new.parcels ≡ without_id (self.old.next - 1) self.old.parcels }
+        ensures next { self.new.next + 1 ≡ self.old.next }
+        ensures fates { (before : List (Option ℕ)) (last : Option ℕ) → self.old.fates ≡ before ++ last ∷ []
+            → self.new.fates ≡ before }
+    {
+        if let Some(Place::Here(key)) = self.places.pop() {
+            self.slab.remove(key);
+        }
     }
 
     /// Gives a parcel another shape; its id and its key stay.

@@ -1,0 +1,18 @@
+//! Tests of transactions: each list of edits as one beside the same edits one by one, each edit refused in turn, growths
+//! that are refused, long lists, and copies that follow.
+#![tactic(auto)]
+
+#[cfg(test)]
+mod alike;
+#[cfg(test)]
+mod edits;
+#[cfg(test)]
+mod followed;
+#[cfg(test)]
+mod growths;
+#[cfg(test)]
+mod lists;
+#[cfg(test)]
+mod long;
+#[cfg(test)]
+mod refused;
