@@ -1,3 +1,4 @@
 pub mod Offices
+pub mod Deeds
 pub mod Places
 pub mod own

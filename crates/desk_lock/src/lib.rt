@@ -6,6 +6,7 @@
 
 mod card;
 mod copied;
+mod deed;
 mod desk;
 mod name;
 mod office;
@@ -15,6 +16,7 @@ mod window;
 
 pub use card::Card;
 pub use copied::Copied;
+pub use deed::{DeedReceipt, NamedRefusal, RefusedDeed};
 pub use desk::Desk;
 pub use name::{Name, Naming};
 pub use office::{CloseFault, Office};

@@ -13,14 +13,18 @@ ghost use Rattle.desk_lock.specs.Offices.{IsSometime, AreOfClerks, EndsWith, IsR
 ghost use Rattle.desk_lock.specs.Offices.{IsSheetOf, IsTotal};
 ghost use Rattle.desk_lock.specs.Places.{IsWrong, IsOpenFault};
 ghost use Rattle.desk_lock.specs.declared.opening.TheConstants.{MOST_PLACES};
+ghost use Rattle.fabric_core.specs.Transactions.{AreCounted};
+ghost use Rattle.desk_lock.specs.Deeds.{AreMeant};
 
 use crate::card::Card;
+use crate::deed::{DeedReceipt, RefusedDeed};
 use crate::desk::Desk;
 use crate::name::{Name, Naming};
 use crate::opening::{OpenFault, Parts, check_places, parts_of};
 use crate::receipt::{Notice, Receipt};
 use crate::window::Window;
 use fabric_core::{Entry, Fabric, Refusal, Sheet};
+use named_edits::NamedEdit;
 use ring_edits::Edit;
 use std::alloc::{AllocError, Allocator};
 use std::sync::{Mutex, Wait};
@@ -128,6 +132,54 @@ impl<'a, H: Allocator, J: Naming<H>, R: Wait + Drop> Office<'a, H, J, R> {
     {
         let mut desk = self.desk.lock(rt);
         desk.submit(card, edit)
+    }
+
+    /// Takes the lock, makes the edits of a transaction by the card's clerk, all or none, and publishes them at once:
+    /// no window ever shows some of them.
+    ///
+    /// # Errors
+    ///
+    /// As [`Desk::enter_all`]; card and fabric are unchanged then, but that the card has met the journal.
+    ///
+    /// ```
+    /// let receipt = office.submit_all(rt, &mut card, &edits)?;
+    /// ```
+    pub fn submit_all<W: Wait>(
+        &self,
+        rt: &W,
+        card: &mut Card<'a, H, J>,
+        edits: &[NamedEdit<&'a H>],
+    ) -> Result<DeedReceipt<'a, H, J>, RefusedDeed>
+        ensures clerk { card.new.clerk ≡ card.old.clerk }
+        ensures made { IfOk result (λ receipt. card.new.made ≡ card.old.made ++ receipt.entries.items) }
+        ensures meant { IfOk result (λ receipt. AreMeant [] edits.now receipt.entries.items) }
+        ensures counted { IfOk result (λ receipt. AreCounted 0 receipt.entries.items) }
+        ensures met { IsPrefix card.old.met card.new.met }
+        ensures after { IfOk result (λ receipt. IsSometime J.office card.new (journal_met J.office card.new)) }
+        ensures unchanged { OnErr result (card.new ≡ with_met card.old card.new.met) }
+    {
+        let mut desk = self.desk.lock(rt);
+        desk.submit_all(card, edits)
+    }
+
+    /// The same as [`Office::submit_all`], but nothing is published by it, as with [`Office::enter`].
+    ///
+    /// # Errors
+    ///
+    /// As [`Desk::enter_all`].
+    pub fn enter_all<W: Wait>(
+        &self,
+        rt: &W,
+        card: &mut Card<'a, H, J>,
+        edits: &[NamedEdit<&'a H>],
+    ) -> Result<Vec<Entry<&'a H>, &'a H>, RefusedDeed>
+        ensures made { IfOk result (λ entries. card.new.made ≡ card.old.made ++ entries.items) }
+        ensures meant { IfOk result (λ entries. AreMeant [] edits.now entries.items) }
+        ensures counted { IfOk result (λ entries. AreCounted 0 entries.items) }
+        ensures unchanged { OnErr result (card.new ≡ with_met card.old card.new.met) }
+    {
+        let mut desk = self.desk.lock(rt);
+        desk.enter_all(card, edits)
     }
 
     /// Takes the lock, and makes an edit by the card's clerk; nothing is published by it. Whoever has

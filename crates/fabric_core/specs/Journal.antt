@@ -14,8 +14,8 @@ pub record State : Type 0 where
   pub refined : List Corner
   pub next : ℕ
 
--- an accepted edit: its number from 1, who made it, how many entries of its transaction follow it, the edit, the ids that
--- it took out, and the rows that it brought
+-- an accepted edit: its number from 1, who made it, how many entries of its transaction follow it, the edit, the ids
+-- that it took out, and the rows that it brought
 pub record JournalEntry (A : Type 0) : Type 0 where
   pub number : ℕ
   pub clerk : ℕ

@@ -1,9 +1,7 @@
 -- Several edits as one: a transaction is made whole or not at all (this product's own).
-use Rattle.std.specs.Prelude.{◌≡◌, ◌≢◌, ◌⊎◌, ◌↔◌, ⊤, ℕ, ◌+◌, ◌-◌, ◌≤◌, nat_eq, not, List, [], ◌∷◌, ◌++◌, map, length}
-use Rattle.std.specs.Prelude.{Some}
-use Rattle.std.specs.List.{AllByRecursion, Contains, filter, flat_map, list_any, slice_get}
+use Rattle.std.specs.Prelude.{◌≡◌, ◌≢◌, ◌⊎◌, ◌↔◌, ⊤, ℕ, ◌+◌, nat_eq, not, List, [], ◌∷◌, ◌++◌, map, length}
+use Rattle.std.specs.List.{AllByRecursion, Contains, filter, flat_map, list_any}
 use Rattle.std.specs.List.Sorted.{IsPermutation}
-use Rattle.geo_exact.specs.declared.corner.Corner.{Corner}
 use Rattle.geo_exact.specs.Layers.{NumberedRing}
 use Rattle.ring_edits.specs.declared.edit.Edit.{Edit}
 use Rattle.fabric_core.specs.declared.refusal.Refusal.{Refusal}
@@ -22,21 +20,21 @@ module _ {A : Type 0} where
     pub are_clerks : AllByRecursion (λ entry. entry.clerk ≡ clerk) entries
     pub are_lawful : AreLawfulFrom state number entries
 
-  -- each entry says how many of them follow it
-  abbrev pub AreCounted : List (JournalEntry A) → Type 0
-  AreCounted [] = ⊤
-  AreCounted (entry ∷ rest) = (entry.following ≡ length rest) × AreCounted rest
+  -- each entry says how many follow it: those of them behind it, and so many more
+  abbrev pub AreCounted : ℕ → List (JournalEntry A) → Type 0
+  AreCounted more [] = ⊤
+  AreCounted more (entry ∷ rest) = (entry.following ≡ length rest + more) × AreCounted more rest
 
   -- the transaction of a list of edits, by a clerk in a state
   pub record IsTransaction (state : State) (number clerk : ℕ) (edits : List (Edit A))
       (entries : List (JournalEntry A)) : Type 0 where
     pub in_turn : AreMadeInTurn state number clerk edits entries
-    pub counted : AreCounted entries
+    pub counted : AreCounted 0 entries
 
   -- the entries are the next of a fabric's journal: a transaction, numbered on, on what is now
   pub record AreDue (book : Book A) (entries : List (JournalEntry A)) : Type 0 where
     pub are_lawful : AreLawfulFrom book.now (length book.journal + 1) entries
-    pub counted : AreCounted entries
+    pub counted : AreCounted 0 entries
 
   -- the first edit that is refused is the one at this place, from 1, for this reason: those before it can be made, and
   -- in the state that they lead to, behind the journal and their entries, it is refused
@@ -49,19 +47,20 @@ module _ {A : Type 0} where
     pub is_place : place ≡ length before + 1
     pub made : List (JournalEntry A)
     pub are_made : AreMadeInTurn state (length journal + 1) clerk before made
+    pub counted : AreCounted (length behind + 1) made
     pub is_refusal : IsRefusal (replay state made) (journal ++ made) edit refusal
 
   -- the journal is whole transactions, one behind the other: so it ends where a transaction ends
   pub record IsWhole (journal : List (JournalEntry A)) : Type 0 where
     pub transactions : List (List (JournalEntry A))
     pub are_all : journal ≡ flat_map (λ entries. entries) transactions
-    pub are_counted : AllByRecursion AreCounted transactions
+    pub are_counted : AllByRecursion (AreCounted 0) transactions
 
   -- it has so many whole transactions at its beginning, and then this one
   pub record HasTransaction (journal before entries behind : List (JournalEntry A)) : Type 0 where
     pub are_all : journal ≡ before ++ entries ++ behind
     pub whole_before : IsWhole before
-    pub counted : AreCounted entries
+    pub counted : AreCounted 0 entries
     pub some : entries ≢ []
 
   -- the ids of the parcels that an entry brings: those of its rows that it did not take out. (A parcel that a corner is
@@ -78,16 +77,22 @@ module _ {A : Type 0} where
   all_gone_ids entries =
       flat_map (λ entry. filter (λ id. not (list_any (nat_eq id) (numbers entry.rows))) entry.out) entries
 
+  -- each of the ids once, at the first of its places
+  abbrev pub once : List ℕ → List ℕ
+  once [] = []
+  once (id ∷ ids) = id ∷ filter (λ other. not (nat_eq other id)) (once ids)
+
   -- the first without what is also in the second
   abbrev pub not_in : List ℕ → List ℕ → List ℕ
   not_in ids others = filter (λ id. not (list_any (nat_eq id) others)) ids
 
-  -- what a transaction takes out that it did not bring, and what it brings that it does not take out again
-  abbrev pub net_gone : List (JournalEntry A) → List ℕ
-  net_gone entries = not_in (all_gone_ids entries) (all_new_ids entries)
+  -- what a transaction took out, for good or for another ring, of what was there before it; and what it brought and
+  -- left there. What it brought and took out again is in neither
+  abbrev pub out_ids : List (JournalEntry A) → List ℕ
+  out_ids entries = once (not_in (flat_map (λ entry. entry.out) entries) (all_new_ids entries))
 
-  abbrev pub net_new : List (JournalEntry A) → List ℕ
-  net_new entries = not_in (all_new_ids entries) (all_gone_ids entries)
+  abbrev pub left_ids : List (JournalEntry A) → List ℕ
+  left_ids entries = once (not_in (flat_map (λ entry. numbers entry.rows) entries) (all_gone_ids entries))
 
   -- an entry concerns a parcel: its edit names it, or it takes it out or brings it, be it with a corner more or less
   abbrev pub Concerns : JournalEntry A → ℕ → Type 0
@@ -120,7 +125,8 @@ with_ids ids rows = filter (λ row. list_any (nat_eq row.number) ids) rows
 -- concerned stay as they are, and the others have the rings that those which it concerned had before
 pub record TakesBack {A : Type 0} (before : State) (entries : List (JournalEntry A)) (now after : State) : Type 0 where
   pub concerned : List ℕ
-  pub are_concerned : (id : ℕ) → Contains concerned id ↔ ((one : JournalEntry A) × Contains entries one × Concerns one id)
+  pub are_concerned : (id : ℕ) → Contains concerned id
+      ↔ ((one : JournalEntry A) × Contains entries one × Concerns one id)
   pub new : List ℕ
   pub rings : HaveSameRings (with_ids (concerned ++ new) after.rows) (with_ids concerned before.rows)
   pub others : without_ids (concerned ++ new) after.rows ≡ without_ids concerned now.rows

@@ -18,9 +18,9 @@ ghost use Rattle.fabric_core.specs.own.Changes.{IsInsertRefusal, AsksMemory, IsS
 
 use crate::edges::some_renewed_rows;
 use crate::journal::Row;
+use crate::plan::Plan;
 use crate::refusal::Refusal;
 use crate::ring_change::RingChange;
-use crate::plan::Plan;
 use geo_exact::{Corner, Corners};
 use ring_core::Shape;
 use ring_edits::{Edit, EditFault, is_bent, is_between, merge, shift, split};
@@ -52,9 +52,12 @@ impl From<EditFault> for Refusal {
 }
 
 /// The shape of a parcel that an edit names.
-fn here<'t, 'a, H: Allocator>(tiled: &'t Plan<'_, 'a, H>, id: u64) -> Result<&'t Shape<&'a H>, Refusal>
-    ensures ok { IfOk result (λ shape. Contains tiled.now.rows (numbered id shape.now.ring.corners)) }
-    ensures err { IfErr result (λ refusal. IsGone tiled.now id refusal) }
+fn here<'t, 'a, H: Allocator>(
+    tiled: &'t Plan<'_, 'a, H>,
+    id: u64,
+) -> Result<&'t Shape<&'a H>, Refusal>
+    ensures ok { IfOk result (λ shape. Contains tiled.now.kept.rows (numbered id shape.now.ring.corners)) }
+    ensures err { IfErr result (λ refusal. IsGone tiled.now.kept id refusal) }
 {
     match tiled.shape(id) {
         Some(shape) => Ok(shape),
@@ -64,7 +67,7 @@ fn here<'t, 'a, H: Allocator>(tiled: &'t Plan<'_, 'a, H>, id: u64) -> Result<&'t
 
 /// Why an id that is no parcel's is refused.
 fn gone<'a, H: Allocator>(tiled: &Plan<'_, 'a, H>, id: u64) -> Refusal
-    ensures { IsTold tiled.now id result }
+    ensures { IsTold tiled.now.kept id result }
 {
     match tiled.gone_by(id) {
         Some(by) => Refusal::Retired { id, by },
@@ -118,14 +121,15 @@ fn split_change<'a, H: Allocator>(
     id: u64,
     path: &[Corner],
 ) -> Result<Change<&'a H>, Refusal>
-    requires next { next ≡ tiled.now.next }
+    requires next { next ≡ tiled.now.kept.next }
     requires room { next + 1 < 2 ^ 64 }
     ensures change { IfOk result (λ change.
-        IsSplitOf (state_of tiled.now) id path.now change.out.items (rows_of_entry change.rows.items)) }
+        IsSplitOf (state_of tiled.now.kept) id path.now change.out.items (rows_of_entry change.rows.items)) }
     ensures err { IfErr result (λ refusal.
-        IsStopped tiled.now (id ∷ []) ((refusal ≡ BadPath) × IsBadCutPath (state_of tiled.now) id path.now) refusal) }
-    ensures memory { IsErrOf result NoMemory → (ring : List CornerValue) × Contains tiled.now.rows (numbered id ring)
-        × IsPathAcross ring path.now }
+        IsStopped tiled.now.kept (id ∷ [])
+        ((refusal ≡ BadPath) × IsBadCutPath (state_of tiled.now.kept) id path.now) refusal) }
+    ensures memory { IsErrOf result NoMemory → (ring : List CornerValue)
+        × Contains tiled.now.kept.rows (numbered id ring) × IsPathAcross ring path.now }
 {
     let shape = here(tiled, id)?;
     let (left, right) = match split(alloc, shape.ring.corners.as_slice(), path) {
@@ -146,13 +150,13 @@ fn merge_change<'a, H: Allocator>(
     a: u64,
     b: u64,
 ) -> Result<Change<&'a H>, Refusal>
-    requires next { next ≡ tiled.now.next }
+    requires next { next ≡ tiled.now.kept.next }
     ensures change { IfOk result (λ change.
-        IsMergeOf (state_of tiled.now) a b change.out.items (rows_of_entry change.rows.items)) }
+        IsMergeOf (state_of tiled.now.kept) a b change.out.items (rows_of_entry change.rows.items)) }
     ensures err { IfErr result (λ refusal.
-        IsStopped tiled.now (a ∷ b ∷ []) (IsBorderRefusal (state_of tiled.now) a b refusal) refusal) }
+        IsStopped tiled.now.kept (a ∷ b ∷ []) (IsBorderRefusal (state_of tiled.now.kept) a b refusal) refusal) }
     ensures memory { IsErrOf result NoMemory → (ring_a : List CornerValue) × (ring_b : List CornerValue)
-        × Contains tiled.now.rows (numbered a ring_a) × Contains tiled.now.rows (numbered b ring_b)
+        × Contains tiled.now.kept.rows (numbered a ring_a) × Contains tiled.now.kept.rows (numbered b ring_b)
         × ShareOneRun ring_a ring_b }
 {
     let first = here(tiled, a)?;
@@ -176,14 +180,14 @@ fn move_change<'a, H: Allocator>(
     b: u64,
     path: &[Corner],
 ) -> Result<Change<&'a H>, Refusal>
-    requires next { next ≡ tiled.now.next }
+    requires next { next ≡ tiled.now.kept.next }
     requires room { next + 1 < 2 ^ 64 }
     ensures change { IfOk result (λ change.
-        IsMoveOf (state_of tiled.now) a b path.now change.out.items (rows_of_entry change.rows.items)) }
+        IsMoveOf (state_of tiled.now.kept) a b path.now change.out.items (rows_of_entry change.rows.items)) }
     ensures err { IfErr result (λ refusal.
-        IsStopped tiled.now (a ∷ b ∷ []) (IsMoveRefusal (state_of tiled.now) a b path.now refusal) refusal) }
+        IsStopped tiled.now.kept (a ∷ b ∷ []) (IsMoveRefusal (state_of tiled.now.kept) a b path.now refusal) refusal) }
     ensures memory { IsErrOf result NoMemory → (ring_a : List CornerValue) × (ring_b : List CornerValue)
-        × Contains tiled.now.rows (numbered a ring_a) × Contains tiled.now.rows (numbered b ring_b)
+        × Contains tiled.now.kept.rows (numbered a ring_a) × Contains tiled.now.kept.rows (numbered b ring_b)
         × IsBorderPath ring_a ring_b path.now }
 {
     let first = here(tiled, a)?;
@@ -214,12 +218,13 @@ fn insert_change<'a, H: Allocator>(
     to: Corner,
     at: Corner,
 ) -> Result<Change<&'a H>, Refusal>
-    requires in_area { AllByRecursion (λ row. All (HoldsCorner tiled.now.index.area) row.corners) tiled.now.rows }
+    requires in_area { AllByRecursion (λ row. All (HoldsCorner tiled.now.kept.index.area) row.corners)
+        tiled.now.kept.rows }
     ensures change { IfOk result (λ change.
-        IsInsertOf (state_of tiled.now) from to at change.out.items (rows_of_entry change.rows.items)) }
+        IsInsertOf (state_of tiled.now.kept) from to at change.out.items (rows_of_entry change.rows.items)) }
     ensures err { IfErr result (λ refusal.
-        IsStopped tiled.now [] (IsInsertRefusal (state_of tiled.now) from to at refusal) refusal) }
-    ensures memory { IsErrOf result NoMemory → (from ≢ to) × (rows_with_edge from to tiled.now.rows ≢ []) }
+        IsStopped tiled.now.kept [] (IsInsertRefusal (state_of tiled.now.kept) from to at refusal) refusal) }
+    ensures memory { IsErrOf result NoMemory → (from ≢ to) × (rows_with_edge from to tiled.now.kept.rows ≢ []) }
 {
     if from == to {
         return Err(Refusal::NoSuchEdge);
@@ -236,9 +241,9 @@ fn insert_change<'a, H: Allocator>(
 
 /// The least of these ids whose parcel's ring bends at the corner; the ids are those of the parcels that have it.
 fn first_bent<'a, H: Allocator>(tiled: &Plan<'_, 'a, H>, ids: &[u64], at: Corner) -> Option<u64>
-    requires { ids.now ≡ numbers (rows_at_corner at tiled.now.rows) }
-    ensures bent { IfSome result (λ id. IsFirstBent tiled.now.rows at id) }
-    ensures straight { IfNone result (AllByRecursion (λ row. ¬ BendsAt at row.corners) tiled.now.rows) }
+    requires { ids.now ≡ numbers (rows_at_corner at tiled.now.kept.rows) }
+    ensures bent { IfSome result (λ id. IsFirstBent tiled.now.kept.rows at id) }
+    ensures straight { IfNone result (AllByRecursion (λ row. ¬ BendsAt at row.corners) tiled.now.kept.rows) }
 {
     tiled.use_invariant();
     for id in ids {
@@ -259,12 +264,13 @@ fn straighten_change<'a, H: Allocator>(
     tiled: &Plan<'_, 'a, H>,
     at: Corner,
 ) -> Result<Change<&'a H>, Refusal>
-    requires in_area { AllByRecursion (λ row. All (HoldsCorner tiled.now.index.area) row.corners) tiled.now.rows }
+    requires in_area { AllByRecursion (λ row. All (HoldsCorner tiled.now.kept.index.area) row.corners)
+        tiled.now.kept.rows }
     ensures change { IfOk result (λ change.
-        IsStraightenOf (state_of tiled.now) at change.out.items (rows_of_entry change.rows.items)) }
+        IsStraightenOf (state_of tiled.now.kept) at change.out.items (rows_of_entry change.rows.items)) }
     ensures err { IfErr result (λ refusal.
-        IsStopped tiled.now [] (IsStraightenRefusal (state_of tiled.now) at refusal) refusal) }
-    ensures memory { IsErrOf result NoMemory → rows_at_corner at tiled.now.rows ≢ [] }
+        IsStopped tiled.now.kept [] (IsStraightenRefusal (state_of tiled.now.kept) at refusal) refusal) }
+    ensures memory { IsErrOf result NoMemory → rows_at_corner at tiled.now.kept.rows ≢ [] }
 {
     let Some(rows) = some_renewed_rows(alloc, tiled, RingChange::TakeOut { at })? else {
         return Err(Refusal::NoSuchCorner);
@@ -286,14 +292,16 @@ pub(crate) fn change_of<'a, H: Allocator>(
     next: u64,
     edit: &Edit<&'a H>,
 ) -> Result<Change<&'a H>, Refusal>
-    requires next { next ≡ tiled.now.next }
+    requires next { next ≡ tiled.now.kept.next }
     requires room { next + 1 < 2 ^ 64 }
-    requires in_area { AllByRecursion (λ row. All (HoldsCorner tiled.now.index.area) row.corners) tiled.now.rows }
+    requires in_area { AllByRecursion (λ row. All (HoldsCorner tiled.now.kept.index.area) row.corners)
+        tiled.now.kept.rows }
     ensures change { IfOk result (λ change.
-        IsChange (state_of tiled.now) edit.now change.out.items (rows_of_entry change.rows.items)) }
+        IsChange (state_of tiled.now.kept) edit.now change.out.items (rows_of_entry change.rows.items)) }
     ensures err { IfErr result (λ refusal.
-        IsStopped tiled.now (named_ids edit.now) (IsOwnRefusal (state_of tiled.now) edit.now refusal) refusal) }
-    ensures memory { IsErrOf result NoMemory → AsksMemory (state_of tiled.now) edit.now }
+        IsStopped tiled.now.kept (named_ids edit.now) (IsOwnRefusal (state_of tiled.now.kept) edit.now refusal)
+        refusal) }
+    ensures memory { IsErrOf result NoMemory → AsksMemory (state_of tiled.now.kept) edit.now }
 {
     match edit {
         Edit::Split { id, path } => split_change(alloc, tiled, next, *id, path.as_slice()),

@@ -14,9 +14,9 @@ use crate::change::{Change, change_of};
 use crate::journal::Entry;
 use crate::new_limits::{corners_after, is_within};
 use crate::new_shapes::simple_shapes;
+use crate::plan::Plan;
 use crate::refusal::Refusal;
 use crate::tiled::Tiled;
-use crate::plan::Plan;
 use ring_core::Shape;
 use ring_edits::Edit;
 use std::alloc::Allocator;
@@ -32,8 +32,8 @@ pub(crate) struct Draft<A: Allocator> {
     pub corners: usize,
 }
 
-/// The draft of an edit on what is planned of parcels, which have so many corners then, or why it is refused. Nothing is
-/// changed.
+/// The draft of an edit on what is planned, where all rings have so many corners then, or why it is refused. Nothing
+/// is changed.
 pub(crate) fn draft_of<'a, H: Allocator>(
     tiled: &Plan<'_, 'a, H>,
     corners: usize,
@@ -42,20 +42,20 @@ pub(crate) fn draft_of<'a, H: Allocator>(
     following: u32,
     edit: &Edit<&'a H>,
 ) -> Result<Draft<&'a H>, Refusal>
-    requires counted { corners ≡ corner_count tiled.now.rows }
-    requires small { tiled.now.next + 1 < 2 ^ 64 }
+    requires counted { corners ≡ corner_count tiled.now.kept.rows }
+    requires small { tiled.now.kept.next + 1 < 2 ^ 64 }
     requires place { number ≤ JOURNAL_ENTRIES }
-    ensures is_entry { IfOk result (λ draft. IsEntryOf (state_of tiled.now) draft.entry) }
+    ensures is_entry { IfOk result (λ draft. IsEntryOf (state_of tiled.now.kept) draft.entry) }
     ensures number { IfOk result (λ draft. draft.entry.number ≡ number) }
     ensures clerk { IfOk result (λ draft. draft.entry.clerk ≡ clerk) }
     ensures following { IfOk result (λ draft. draft.entry.following ≡ following) }
     ensures edit { IfOk result (λ draft. draft.entry.edit ≡ edit.now) }
-    ensures here { IfOk result (λ _. AreParcels tiled.now.rows (named_ids edit.now)) }
+    ensures here { IfOk result (λ _. AreParcels tiled.now.kept.rows (named_ids edit.now)) }
     ensures shapes { IfOk result (λ draft. rings_of_shapes draft.shapes.items ≡ corner_lists draft.entry.rows) }
     ensures corners { IfOk result (λ draft. draft.corners
-        ≡ corner_count (after_entry (state_of tiled.now) draft.entry).rows) }
-    ensures err { IfErr result (λ refusal. IsDraftRefusal tiled.now edit.now refusal ⊎ (refusal ≡ NoMemory)) }
-    ensures memory { IsErrOf result NoMemory → AsksMemory (state_of tiled.now) edit.now }
+        ≡ corner_count (after_entry (state_of tiled.now.kept) draft.entry).rows) }
+    ensures err { IfErr result (λ refusal. IsDraftRefusal tiled.now.kept edit.now refusal ⊎ (refusal ≡ NoMemory)) }
+    ensures memory { IsErrOf result NoMemory → AsksMemory (state_of tiled.now.kept) edit.now }
 {
     tiled.use_invariant();
     let heap = tiled.allocator();

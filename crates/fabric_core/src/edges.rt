@@ -7,8 +7,8 @@ ghost use Rattle.fabric_core.specs.own.EntryRows.{rows_of_entry};
 ghost use Rattle.fabric_core.specs.own.RingChanges.{HasTwoEnds, is_changed, renewed, rows_changed};
 
 use crate::journal::Row;
-use crate::ring_change::RingChange;
 use crate::plan::Plan;
+use crate::ring_change::RingChange;
 use std::alloc::{AllocError, Allocator};
 
 /// The parcels that are changed, after the change, by ascending id.
@@ -18,9 +18,10 @@ fn renewed_rows<'a, H: Allocator>(
     change: RingChange,
 ) -> Result<Vec<Row<&'a H>, &'a H>, AllocError>
     requires two_ends { HasTwoEnds change }
-    requires in_area { AllByRecursion (λ row. All (HoldsCorner tiled.now.index.area) row.corners) tiled.now.rows }
+    requires in_area { AllByRecursion (λ row. All (HoldsCorner tiled.now.kept.index.area) row.corners)
+        tiled.now.kept.rows }
     ensures { IfOk result (λ rows. rows_of_entry rows.items
-        ≡ map (renewed change) (rows_changed change tiled.now.rows)) }
+        ≡ map (renewed change) (rows_changed change tiled.now.kept.rows)) }
 {
     tiled.use_invariant();
     let corner = change.corner();
@@ -47,12 +48,13 @@ pub(crate) fn some_renewed_rows<'a, H: Allocator>(
     change: RingChange,
 ) -> Result<Option<Vec<Row<&'a H>, &'a H>>, AllocError>
     requires two_ends { HasTwoEnds change }
-    requires in_area { AllByRecursion (λ row. All (HoldsCorner tiled.now.index.area) row.corners) tiled.now.rows }
-    ensures none { IfOk result (λ found. IfNone found (rows_changed change tiled.now.rows ≡ [])) }
-    ensures some { IfOk result (λ found. OnSome found (rows_changed change tiled.now.rows ≢ [])) }
+    requires in_area { AllByRecursion (λ row. All (HoldsCorner tiled.now.kept.index.area) row.corners)
+        tiled.now.kept.rows }
+    ensures none { IfOk result (λ found. IfNone found (rows_changed change tiled.now.kept.rows ≡ [])) }
+    ensures some { IfOk result (λ found. OnSome found (rows_changed change tiled.now.kept.rows ≢ [])) }
     ensures rows { IfOk result (λ found. IfSome found (λ rows. rows_of_entry rows.items
-        ≡ map (renewed change) (rows_changed change tiled.now.rows))) }
-    ensures memory { OnErr result (rows_changed change tiled.now.rows ≢ []) }
+        ≡ map (renewed change) (rows_changed change tiled.now.kept.rows))) }
+    ensures memory { OnErr result (rows_changed change tiled.now.kept.rows ≢ []) }
 {
     match renewed_rows(alloc, tiled, change) {
         Ok(rows) if rows.is_empty() => Ok(None),

@@ -248,6 +248,13 @@ impl<'a, H: Allocator> Fabric<'a, H> {
         self.journal().len() as u64
     }
 
+    /// The id that the next new parcel gets, above all that were given out.
+    pub fn next_id(&self) -> u64
+        ensures { result ≡ self.now.now.next }
+    {
+        self.tiled.next_id()
+    }
+
     /// The parcels' ids, ascending.
     pub fn ids(&self) -> Ids<'_, &'a H>
         ensures ids { result ≡ numbers self.now.now.rows }
@@ -388,8 +395,9 @@ impl<'a, H: Allocator> Fabric<'a, H> {
     ///
     /// # Errors
     ///
-    /// The first edit that is refused, by its place from 1, with what [`Fabric::edit`] would refuse it for in that state;
-    /// nothing has changed then. Where an allocation fails once all are planned, it is [`Refusal::NoMemory`] at the last.
+    /// The first edit that is refused, by its place from 1, with what [`Fabric::edit`] would refuse it for in that
+    /// state; nothing has changed then. Where an allocation fails once all are planned, it is [`Refusal::NoMemory`] at
+    /// the last.
     ///
     /// ```
     /// // Of parcels 1 and 2, neighbours: 3 comes and goes again.
@@ -418,14 +426,21 @@ impl<'a, H: Allocator> Fabric<'a, H> {
         ensures refuses { (place : ℕ) (refusal : Refusal)
             → IsFirstRefused self.old.now self.old.journal clerk edits.now place refusal
             → IsErrAnd result (λ e. ((e.place ≡ place) × (e.refusal ≡ refusal)) ⊎ (e.refusal ≡ NoMemory)) }
-        // Memory runs out at an edit that nothing refuses which is told whatever memory there is, and at none behind the
-        // first that is refused.
+        // Memory runs out at no edit behind the first that is refused, and not at that one where its refusal is told
+        // whatever memory there is.
         ensures exact { (place : ℕ) (refusal : Refusal)
             → IsFirstRefused self.old.now self.old.journal clerk edits.now place refusal
             → IfErr result (λ e. (e.place ≤ place) × (e.place ≡ place → NeedsNoMemory refusal → e.refusal ≡ refusal)) }
     {
-        let journaled = self.journal.len();
-        let net = plan_all(&self.tiled, self.corners, journaled, clerk, edits)?;
+        let journal = self.journal.as_slice();
+        let net = plan_all(
+            &self.tiled,
+            &self.opening,
+            journal,
+            self.corners,
+            clerk,
+            edits,
+        )?;
         let last = RefusedEdit {
             place: edits.len() as u32,
             refusal: Refusal::NoMemory,
@@ -455,7 +470,8 @@ impl<'a, H: Allocator> Fabric<'a, H> {
         ensures city { self.new.city ≡ self.old.city }
         ensures opening { self.new.opening ≡ self.old.opening }
         ensures unchanged { OnErr result (self.new ≡ self.old) }
-        ensures fault { IfErr result (λ fault. ((fault ≡ NotDue) × (¬ AreDue self.old entries.now)) ⊎ (fault ≡ NoRoom)) }
+        ensures fault { IfErr result (λ fault. ((fault ≡ NotDue) × (¬ AreDue self.old entries.now))
+            ⊎ (fault ≡ NoRoom)) }
     {
         let journaled = self.journal.len();
         let net = plan_followed(&self.tiled, self.corners, journaled, entries)?;

@@ -18,11 +18,11 @@ use std::alloc::Allocator;
 
 /// How many corners the parcels have that stay where others go.
 fn corners_left<'a, H: Allocator>(tiled: &Plan<'_, 'a, H>, out: &[u64], corners: usize) -> usize
-    requires corners { corners ≡ corner_count tiled.now.rows }
-    requires here { (id : ℕ) → Contains out.now id → Contains (numbers tiled.now.rows) id }
+    requires corners { corners ≡ corner_count tiled.now.kept.rows }
+    requires here { (id : ℕ) → Contains out.now id → Contains (numbers tiled.now.kept.rows) id }
     requires apart { AllPairs (λ a b. a ≢ b) out.now }
-    ensures corners { result ≡ corner_count (without_ids out.now tiled.now.rows) }
-    ensures number { length (without_ids out.now tiled.now.rows) + length out.now ≡ length tiled.now.rows }
+    ensures corners { result ≡ corner_count (without_ids out.now tiled.now.kept.rows) }
+    ensures number { length (without_ids out.now tiled.now.kept.rows) + length out.now ≡ length tiled.now.kept.rows }
 {
     tiled.use_invariant();
     let mut left = corners;
@@ -61,12 +61,12 @@ pub(crate) fn is_within<'a, H: Allocator>(
     change: &Change<&'a H>,
     corners: usize,
 ) -> bool
-    requires corners { corners ≡ corner_count tiled.now.rows }
-    requires here { (id : ℕ) → Contains change.now.out.items id → Contains (numbers tiled.now.rows) id }
+    requires corners { corners ≡ corner_count tiled.now.kept.rows }
+    requires here { (id : ℕ) → Contains change.now.out.items id → Contains (numbers tiled.now.kept.rows) id }
     requires apart { AllPairs (λ a b. a ≢ b) change.now.out.items }
     ensures { IsTrue result
         ↔ AreWithinLayerLimits (with_rows (rows_of_entry change.now.rows.items)
-        (without_ids change.now.out.items tiled.now.rows)) }
+        (without_ids change.now.out.items tiled.now.kept.rows)) }
 {
     tiled.use_invariant();
     let left = corners_left(tiled, &change.out, corners);
@@ -92,14 +92,14 @@ pub(crate) fn corners_after<'a, H: Allocator>(
     change: &Change<&'a H>,
     corners: usize,
 ) -> usize
-    requires corners { corners ≡ corner_count tiled.now.rows }
-    requires here { (id : ℕ) → Contains change.now.out.items id → Contains (numbers tiled.now.rows) id }
+    requires corners { corners ≡ corner_count tiled.now.kept.rows }
+    requires here { (id : ℕ) → Contains change.now.out.items id → Contains (numbers tiled.now.kept.rows) id }
     requires apart { AllPairs (λ a b. a ≢ b) change.now.out.items }
     requires within { AreWithinLayerLimits (with_rows (rows_of_entry change.now.rows.items)
-        (without_ids change.now.out.items tiled.now.rows)) }
+        (without_ids change.now.out.items tiled.now.kept.rows)) }
     ensures { result
         ≡ corner_count (with_rows (rows_of_entry change.now.rows.items)
-        (without_ids change.now.out.items tiled.now.rows)) }
+        (without_ids change.now.out.items tiled.now.kept.rows)) }
 {
     corners_left(tiled, &change.out, corners) + count(&change.rows)
 }

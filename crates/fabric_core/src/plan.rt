@@ -13,7 +13,7 @@ ghost use Rattle.fabric_core.specs.Tiling.{corner_lists};
 ghost use Rattle.fabric_core.specs.own.Balanced.{IsBalanced};
 ghost use Rattle.fabric_core.specs.own.Changes.{rings_of_shapes, state_of};
 ghost use Rattle.fabric_core.specs.own.Kept.{gone_by};
-ghost use Rattle.fabric_core.specs.own.Plans.{IsPlanned, planned};
+ghost use Rattle.fabric_core.specs.own.Plans.{IsPlanned, kept_after};
 ghost use Rattle.fabric_core.specs.own.RingChanges.{is_changed};
 
 use crate::candidates::sort_once;
@@ -69,12 +69,17 @@ impl<'t, 'a, H: Allocator> Drop for Plan<'t, 'a, H> {
 }
 
 impl<'t, 'a, H: Allocator> Model for Plan<'t, 'a, H> {
-    ghost use Rattle.fabric_core.specs.own.Kept.{Kept};
-    ghost use Rattle.fabric_core.specs.own.Plans.{IsPlanned, planned};
+    ghost use Rattle.std.specs.Borrow.{Bor};
+    ghost use Rattle.fabric_core.specs.own.Plans.{IsPlanned, PlanState, planned};
 
-    ghost Value = { Kept };
+    ghost Value = { PlanState (Bor H) };
 
-    ghost view = { λ plan. planned plan.tiled.now plan.net.entries.items };
+    ghost view = { λ plan. record {
+      kept = planned plan.tiled.now plan.net.entries.items;
+      was = plan.tiled.now;
+      entries = plan.net.entries.items;
+      corners = plan.net.corners;
+    } };
 
     ghost invariant = { λ plan. IsPlanned plan.tiled.now plan.net.entries.items plan.net.old.items plan.net.new.items
         plan.net.refined plan.net.parcels plan.net.corners };
@@ -84,7 +89,7 @@ impl<'t, 'a, H: Allocator> Plan<'t, 'a, H> {
     /// No edit is planned of these parcels, whose rings have so many corners together. Nothing is allocated.
     pub(crate) fn new(tiled: &'t Tiled<'a, H>, corners: usize) -> Plan<'t, 'a, H>
         requires { corners ≡ corner_count tiled.now.rows }
-        ensures { result ≡ planned {A = Entry} tiled.now [] }
+        ensures { result ≡ record { kept = tiled.now; was = tiled.now; entries = []; corners = corners } }
     {
         let heap = tiled.allocator();
         Plan {
@@ -103,10 +108,11 @@ impl<'t, 'a, H: Allocator> Plan<'t, 'a, H> {
     /// Only teaches the prover: the rows are balanced and within the limits of a layer, and lie in the city's box; no
     /// parcel that is there has gone.
     pub(crate) fn use_invariant(&self)
-        ensures within { AreWithinLimits self.now.rows }
-        ensures in_area { AllByRecursion (λ row. All (HoldsCorner self.now.index.area) row.corners) self.now.rows }
-        ensures balanced { IsBalanced (state_of self.now) }
-        ensures here { (id : ℕ) → Contains (numbers self.now.rows) id → gone_by self.now id ≡ None }
+        ensures within { AreWithinLimits self.now.kept.rows }
+        ensures in_area { AllByRecursion (λ row. All (HoldsCorner self.now.kept.index.area) row.corners)
+            self.now.kept.rows }
+        ensures balanced { IsBalanced (state_of self.now.kept) }
+        ensures here { (id : ℕ) → Contains (numbers self.now.kept.rows) id → gone_by self.now.kept id ≡ None }
     {
         self.tiled.use_invariant();
     }
@@ -118,21 +124,22 @@ impl<'t, 'a, H: Allocator> Plan<'t, 'a, H> {
 
     /// How many parcels there are.
     pub(crate) fn len(&self) -> usize
-        ensures { result ≡ length self.now.rows }
+        ensures { result ≡ length self.now.kept.rows }
     {
         self.net.parcels
     }
 
     /// How many corners their rings have together.
     pub(crate) fn corners(&self) -> usize
-        ensures { result ≡ corner_count self.now.rows }
+        ensures is_kept { result ≡ self.now.corners }
+        ensures counted { result ≡ corner_count self.now.kept.rows }
     {
         self.net.corners
     }
 
     /// The next id.
     pub(crate) fn next_id(&self) -> u64
-        ensures { result ≡ self.now.next }
+        ensures { result ≡ self.now.kept.next }
     {
         self.tiled.next_id() + self.net.new.len() as u64
     }
@@ -149,7 +156,7 @@ impl<'t, 'a, H: Allocator> Plan<'t, 'a, H> {
 
     /// The number by which the parcel with this id went, where one did.
     pub(crate) fn gone_by(&self, id: u64) -> Option<u64>
-        ensures { result ≡ gone_by self.now id }
+        ensures { result ≡ gone_by self.now.kept id }
     {
         match self.turn(id) {
             Some(Turn::Gone(by)) => Some(*by),
@@ -161,8 +168,8 @@ impl<'t, 'a, H: Allocator> Plan<'t, 'a, H> {
     /// The shape of a parcel; `None` where the id is no parcel's.
     pub(crate) fn shape(&self, id: u64) -> Option<&Shape<&'a H>>
         ensures { MatchOption result
-            ((row : NumberedRing) → Contains self.now.rows row → row.number ≢ id)
-            (λ shape. Contains self.now.rows (numbered id shape.now.ring.corners)) }
+            ((row : NumberedRing) → Contains self.now.kept.rows row → row.number ≢ id)
+            (λ shape. Contains self.now.kept.rows (numbered id shape.now.ring.corners)) }
     {
         match self.turn(id) {
             Some(Turn::Gone(_)) => None,
@@ -173,7 +180,7 @@ impl<'t, 'a, H: Allocator> Plan<'t, 'a, H> {
 
     /// The city's refined ring.
     fn refined(&self) -> &[Corner]
-        ensures { result.now ≡ self.now.refined }
+        ensures { result.now ≡ self.now.kept.refined }
     {
         match &self.net.refined {
             Some(ring) => ring.as_slice(),
@@ -184,8 +191,9 @@ impl<'t, 'a, H: Allocator> Plan<'t, 'a, H> {
     /// The ids, ascending, of parcels near a corner: of all whose boxes hold it, and maybe of others.
     pub(crate) fn near(&self, corner: Corner) -> Result<Vec<u64, &'a H>, AllocError>
         ensures ascend { IfOk result (λ ids. IsStrictlyIncreasing ids.items) }
-        ensures parcels { IfOk result (λ ids. (id : ℕ) → Contains ids.items id → Contains (numbers self.now.rows) id) }
-        ensures all { IfOk result (λ ids. (row : NumberedRing) → Contains self.now.rows row
+        ensures parcels { IfOk result (λ ids. (id : ℕ) → Contains ids.items id
+            → Contains (numbers self.now.kept.rows) id) }
+        ensures all { IfOk result (λ ids. (row : NumberedRing) → Contains self.now.kept.rows row
             → Contains row.corners corner → Contains ids.items row.number) }
     {
         let mut ids = Vec::new(self.allocator());
@@ -208,7 +216,7 @@ impl<'t, 'a, H: Allocator> Plan<'t, 'a, H> {
 
     /// Whether any parcel is changed. It takes no memory: each parcel is looked at, and not those of a cell alone.
     pub(crate) fn is_any_changed(&self, change: RingChange) -> bool
-        ensures { result ≡ list_any (λ row. is_changed change row.corners) self.now.rows }
+        ensures { result ≡ list_any (λ row. is_changed change row.corners) self.now.kept.rows }
     {
         for (id, shape) in self.tiled.shapes() {
             if self.turn(id).is_none() && change.changes(shape.ring.corners.as_slice()) {
@@ -247,10 +255,14 @@ impl<'t, 'a, H: Allocator> Plan<'t, 'a, H> {
 
     /// Plans the edit that was drafted on what is planned so far. Where an allocation fails, the plan is to be dropped.
     pub(crate) fn add(&mut self, draft: Draft<&'a H>) -> Result<(), AllocError>
-        requires is_entry { IsEntryOf (state_of self.old) draft.entry }
+        requires is_entry { IsEntryOf (state_of self.old.kept) draft.entry }
         requires shapes { rings_of_shapes draft.shapes.items ≡ corner_lists draft.entry.rows }
-        requires corners { draft.corners ≡ corner_count (after_entry (state_of self.old) draft.entry).rows }
-        ensures { OnOk result (state_of self.new ≡ after_entry (state_of self.old) draft.entry.entry) }
+        requires corners { draft.corners ≡ corner_count (after_entry (state_of self.old.kept) draft.entry).rows }
+        ensures { OnOk result (self.new ≡ record self.old {
+          kept = kept_after self.old.kept draft.entry.entry;
+          entries = self.old.entries ++ draft.entry.entry ∷ [];
+          corners = draft.entry.corners;
+        }) }
     {
         let Draft {
             entry,
@@ -276,7 +288,12 @@ impl<'t, 'a, H: Allocator> Plan<'t, 'a, H> {
     }
 
     /// All that the edits change.
-    pub(crate) fn into_net(self) -> Net<'a, H> {
+    pub(crate) fn into_net(self) -> Net<'a, H>
+        ensures entries { result.entries.items ≡ self.entry.entries }
+        ensures corners { result.corners ≡ self.entry.corners }
+        ensures planned { IsPlanned self.entry.was result.entries.items result.old.items result.new.items
+            result.refined result.parcels result.corners }
+    {
         let Plan { tiled: _, net } = self;
         net
     }

@@ -2,7 +2,6 @@
 
 ghost use Rattle.std.specs.Prelude.{◌≡◌, ◌≢◌, ◌↔◌, ◌+◌, ◌≤◌, ◌≤ℤ◌, ℕ, List, [], ◌∷◌, ◌++◌, length, map, IfOk, IfSome};
 ghost use Rattle.std.specs.Prelude.{OnOk, OnErr, MatchOption, nat_lt, take};
-ghost use Rattle.std.specs.Borrow.{Bor};
 ghost use Rattle.std.specs.List.{All, AllByRecursion, Contains, filter};
 ghost use Rattle.std.specs.List.Sorted.{IsStrictlyIncreasing};
 ghost use Rattle.geo_exact.specs.declared.corner.Corner.{Corner, Corner as CornerValue};
@@ -17,8 +16,8 @@ ghost use Rattle.fabric_core.specs.Limits.{AreWithinLimits};
 ghost use Rattle.fabric_core.specs.GridIndex.{IsIndexed, IsCandidate};
 ghost use Rattle.fabric_core.specs.Locate.{IsInsideOf, IsLocatedAt};
 ghost use Rattle.fabric_core.specs.own.Checks.{HaveNoFault, IsChecked};
-ghost use Rattle.fabric_core.specs.Journal.{JournalEntry, replay, without_ids};
-ghost use Rattle.fabric_core.specs.own.Plans.{AreMade, AreTurns, ring_or};
+ghost use Rattle.fabric_core.specs.Journal.{without_ids};
+ghost use Rattle.fabric_core.specs.own.Plans.{AreMade, IsPlanned};
 ghost use Rattle.fabric_core.specs.own.Balanced.{IsBalanced};
 ghost use Rattle.fabric_core.specs.own.Changes.{state_of};
 ghost use Rattle.fabric_core.specs.own.Kept.{gone_by, IsExchanged, IsFresh, MayBeKept};
@@ -33,8 +32,9 @@ ghost use Rattle.fabric_core.specs.Tenfold.{IsTenfoldState, corners_of_state};
 use crate::candidates::{ids_under, sort_once};
 use crate::grid_index::enter_all;
 use crate::hints::Hints;
+use crate::journal::Entry;
 use crate::locate::{At, on_edge_or_outside, search};
-use crate::plan::Turn;
+use crate::plan::{Net, Turn};
 use crate::ring_change::RingChange;
 use crate::tenfold::{least_beyond_of_shapes, tenfold_shapes};
 use cell_index::{CellIndex, IndexEntry};
@@ -515,21 +515,25 @@ impl<'a, H: Allocator> Tiled<'a, H> {
 
 impl<'a, H: Allocator> Tiled<'a, H> {
     /// Makes all that several edits change, at once: those of the parcels that go or get another shape, what becomes of
-    /// the next ids, and the city's refined ring, where it is changed. Where an allocation fails, nothing has changed.
+    /// the next ids, and the city's refined ring, where it is changed; the edits' entries. Where an allocation fails,
+    /// nothing has changed.
     pub(crate) fn exchange(
         &mut self,
-        old: Vec<(u64, Turn<&'a H>), &'a H>,
-        new: Vec<Turn<&'a H>, &'a H>,
-        refined: Option<Corners<&'a H>>,
-    ) -> Result<(), AllocError>
-        ghost entries: { List (JournalEntry (Bor H)) }
-        requires balanced { IsBalanced (replay (state_of self.old) entries) }
-        requires within { AreWithinLimits (replay (state_of self.old) entries).rows }
-        requires turns { AreTurns self.old entries old.items new.items }
-        requires ring { ring_or refined self.old.refined ≡ (replay (state_of self.old) entries).refined }
-        ensures made { OnOk result (AreMade self.old self.new entries) }
+        net: Net<'a, H>,
+    ) -> Result<Vec<Entry<&'a H>, &'a H>, AllocError>
+        requires planned { IsPlanned self.old net.entries.items net.old.items net.new.items
+            net.refined net.parcels net.corners }
+        ensures made { OnOk result (AreMade self.old self.new net.entry.entries.items) }
+        ensures entries { IfOk result (λ entries. entries.items ≡ net.entry.entries.items) }
         ensures unchanged { OnErr result (self.new ≡ self.old) }
     {
+        let Net {
+            old,
+            new,
+            refined,
+            entries,
+            ..
+        } = net;
         self.parcels.use_invariant();
         let heap = self.allocator();
         let mut leaving = Vec::with_capacity(heap, old.len())?;
@@ -572,7 +576,7 @@ impl<'a, H: Allocator> Tiled<'a, H> {
         }
         change_ring(&mut self.refined, refined);
         self.parcels.use_invariant();
-        Ok(())
+        Ok(entries)
     }
 
     /// The entries that the parcels which go have in the index.

@@ -1,18 +1,21 @@
 //! Several edits as one.
 
-ghost use Rattle.std.specs.Prelude.{◌≡◌, ◌⊎◌, ◌+◌, ◌++◌, ◌≤◌, ℕ, List, length, IfOk, IfErr, OnOk, OnErr, IsErrOf, IfSome};
-ghost use Rattle.geo_exact.specs.Layers.{corner_count};
+ghost use Rattle.std.specs.Prelude.{◌≡◌, ◌⊎◌, ◌+◌, ◌++◌, ◌<◌, ◌≤◌, ◌^◌, ℕ, List, length, IfOk, IfErr, OnOk, OnErr};
+ghost use Rattle.std.specs.Prelude.{IsErrOf, IsErrAnd};
 ghost use Rattle.fabric_core.specs.declared.journal.TheConstants.{JOURNAL_ENTRIES, TRANSACTION_EDITS};
 ghost use Rattle.fabric_core.specs.declared.refusal.Refusal.{Refusal as RefusalValue};
-ghost use Rattle.fabric_core.specs.declared.refusal.Refusal.TheVariants.{NoMemory};
-ghost use Rattle.fabric_core.specs.Journal.{State, JournalEntry, replay};
+ghost use Rattle.fabric_core.specs.declared.refusal.Refusal.TheVariants.{JournalFull, NoMemory};
+ghost use Rattle.fabric_core.specs.Refusals.{NeedsNoMemory};
 ghost use Rattle.fabric_core.specs.Transactions.{IsFirstRefused, IsTransaction};
-ghost use Rattle.fabric_core.specs.own.Changes.{state_of};
-ghost use Rattle.fabric_core.specs.own.Plans.{AreMade, IsPlanned};
+ghost use Rattle.fabric_core.specs.own.Books.{IsBook};
+ghost use Rattle.fabric_core.specs.own.Changes.{AsksMemory, IsDraftRefusal, state_of};
+ghost use Rattle.fabric_core.specs.own.Kept.{Kept};
+ghost use Rattle.fabric_core.specs.own.Plans.{AreMade, IsPlanned, PlansEdit};
 
 use crate::draft::draft_of;
 use crate::follow::FollowFault;
 use crate::journal::{Entry, JOURNAL_ENTRIES};
+use crate::opening::Opening;
 use crate::plan::{Net, Plan};
 use crate::refusal::Refusal;
 use crate::tiled::Tiled;
@@ -35,7 +38,14 @@ fn plan_edit<'a, H: Allocator>(
     clerk: u32,
     following: u32,
     edit: &Edit<&'a H>,
-) -> Result<(), Refusal> {
+) -> Result<(), Refusal>
+    requires small { journaled < JOURNAL_ENTRIES → plan.old.kept.next + 1 < 2 ^ 64 }
+    ensures made { OnOk result (PlansEdit plan.old plan.new (journaled + 1) clerk following edit.now) }
+    ensures full { JOURNAL_ENTRIES ≤ journaled → IsErrOf result JournalFull }
+    ensures err { IfErr result (λ refusal. (JOURNAL_ENTRIES ≤ journaled) ⊎ IsDraftRefusal plan.old.kept edit.now refusal
+        ⊎ (refusal ≡ NoMemory)) }
+    ensures memory { IsErrOf result NoMemory → AsksMemory (state_of plan.old.kept) edit.now }
+{
     if journaled >= JOURNAL_ENTRIES {
         return Err(Refusal::JournalFull);
     }
@@ -48,11 +58,34 @@ fn plan_edit<'a, H: Allocator>(
 /// All that the edits change, each made on what those before it make, or the first that is refused. Nothing is changed.
 pub(crate) fn plan_all<'a, H: Allocator>(
     tiled: &Tiled<'a, H>,
+    opening: &Opening<'a, H>,
+    journal: &[Entry<&'a H>],
     corners: usize,
-    journaled: usize,
     clerk: u32,
     edits: &[Edit<&'a H>],
-) -> Result<Net<'a, H>, RefusedEdit> {
+) -> Result<Net<'a, H>, RefusedEdit>
+    requires book { IsBook opening.now journal.now tiled.now corners }
+    requires some { 0 < length edits.now }
+    requires few { length edits.now ≤ TRANSACTION_EDITS }
+    ensures made { IfOk result (λ net.
+        IsTransaction (state_of tiled.now) (length journal.now + 1) clerk edits.now net.entries.items) }
+    ensures planned { IfOk result (λ net. IsPlanned tiled.now net.entries.items net.old.items net.new.items
+        net.refined net.parcels net.corners) }
+    ensures book_after { IfOk result (λ net. (after : Kept) → AreMade tiled.now after net.entries.items
+        → IsBook opening.now (journal.now ++ net.entries.items) after net.corners) }
+    ensures refusal { IfErr result (λ refused.
+        IsFirstRefused (state_of tiled.now) journal.now clerk edits.now refused.place refused.refusal
+        ⊎ (refused.refusal ≡ NoMemory)) }
+    ensures refuses { (place : ℕ) (refusal : RefusalValue)
+        → IsFirstRefused (state_of tiled.now) journal.now clerk edits.now place refusal
+        → IsErrAnd result (λ e. ((e.place ≡ place) × (e.refusal ≡ refusal)) ⊎ (e.refusal ≡ NoMemory)) }
+    ensures exact { (place : ℕ) (refusal : RefusalValue)
+        → IsFirstRefused (state_of tiled.now) journal.now clerk edits.now place refusal
+        → IfErr result (λ e. (e.place ≤ place) × (e.place ≡ place → NeedsNoMemory refusal → e.refusal ≡ refusal)) }
+{
+    // Only clauses read the opening.
+    let _ = opening;
+    let journaled = journal.len();
     let mut plan = Plan::new(tiled, corners);
     for (place, edit) in edits.iter().enumerate() {
         let following = (edits.len() - place - 1) as u32;
@@ -95,7 +128,14 @@ fn follow_entry<'a, H: Allocator>(
         return Err(FollowFault::NotDue);
     }
     let (clerk, following) = (entry.clerk(), entry.following());
-    let drafted = draft_of(plan, plan.corners(), entry.number(), clerk, following, entry.edit());
+    let drafted = draft_of(
+        plan,
+        plan.corners(),
+        entry.number(),
+        clerk,
+        following,
+        entry.edit(),
+    );
     let draft = match drafted {
         Ok(draft) => draft,
         Err(refusal) => return Err(FollowFault::from(refusal)),
@@ -118,20 +158,13 @@ pub(crate) fn carry_out_all<'a, H: Allocator>(
         net.refined net.parcels net.corners }
     ensures made { OnOk result (AreMade tiled.old tiled.new net.entry.entries.items) }
     ensures journal { OnOk result (journal.new.items ≡ journal.old.items ++ net.entry.entries.items) }
-    ensures corners { IfOk result (λ corners. corners ≡ corner_count tiled.new.rows) }
+    ensures corners { IfOk result (λ corners. corners ≡ net.entry.corners) }
     ensures unchanged { OnErr result (tiled.new ≡ tiled.old) }
     ensures same_journal { OnErr result (journal.new.items ≡ journal.old.items) }
 {
-    let Net {
-        old,
-        new,
-        refined,
-        parcels: _,
-        corners,
-        entries,
-    } = net;
-    journal.reserve(entries.len())?;
-    tiled.exchange(old, new, refined)?;
+    let corners = net.corners;
+    journal.reserve(net.entries.len())?;
+    let entries = tiled.exchange(net)?;
     for entry in entries {
         journal.push_reserved(entry);
     }

@@ -1,3 +1,4 @@
 pub mod Journals
+pub mod Deeds
 pub mod Tails
 pub mod Words

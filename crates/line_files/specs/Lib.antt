@@ -4,4 +4,5 @@ pub mod TextNumbers
 pub mod PointLines
 pub mod ClerkFile
 pub mod EditLine
+pub mod DeedLine
 pub mod own

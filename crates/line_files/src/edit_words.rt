@@ -131,7 +131,7 @@ fn read_straighten<A: Allocator>(grid: Grid, mut words: Words<'_>) -> Option<Edi
 }
 
 /// The corners that all words are; `None` where they are no path, which is known before memory is asked for.
-fn read_path<A: Allocator + Copy>(
+pub(crate) fn read_path<A: Allocator + Copy>(
     alloc: A,
     grid: Grid,
     mut words: Words<'_>,
@@ -172,7 +172,7 @@ fn take_number(words: &mut Words<'_>) -> Option<u64>
 }
 
 /// The corner whose coordinates the next two words are; `None` where they are none.
-fn take_corner(grid: Grid, words: &mut Words<'_>) -> Option<Corner>
+pub(crate) fn take_corner(grid: Grid, words: &mut Words<'_>) -> Option<Corner>
     ensures found { IfSome result (λ corner. TakesCorner grid words.old corner words.new) }
     ensures none { IfNone result ((corner : CornerValue) → (left : List (List ℕ))
         → ¬ TakesCorner grid words.old corner left) }

@@ -3,6 +3,7 @@
 #![tactic(auto)]
 
 mod clerk;
+mod deed_lines;
 mod edit_lines;
 mod edit_words;
 mod grids;
@@ -13,6 +14,7 @@ mod text_numbers;
 mod words;
 
 pub use clerk::{ClerkFault, read_clerk};
+pub use deed_lines::{DEED_EDITS, Deed, REMARK_BYTES, is_remark, read_deed, read_named};
 pub use edit_lines::push_edit_line;
 pub use edit_words::read_edit;
 pub use grids::Grid;

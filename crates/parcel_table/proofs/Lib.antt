@@ -5,3 +5,4 @@ pub mod Boxes
 pub mod Clones
 pub mod AllKeyed
 pub mod Crossing
+pub mod LastPlaces

@@ -208,7 +208,22 @@ impl<A: Allocator> Parcels<A> {
         self.places.push_reserved(Place::Retired(by));
     }
 
-    /// Takes the id back that was given out last, with the parcel that has it, where it is here; the room stays.
+    /// Takes the parcel out, where it is here, whose id was given out last.
+    fn leave_last(&mut self)
+        requires { 1 ≤ self.old.next }
+        ensures parcels { self.new.parcels ≡ without_id (self.old.next - 1) self.old.parcels }
+        ensures next { self.new.next ≡ self.old.next }
+        ensures fates { (before : List (Option ℕ)) (last : Option ℕ) → self.old.fates ≡ before ++ last ∷ []
+            → (other : Option ℕ) × (self.new.fates ≡ before ++ other ∷ []) }
+    {
+        self.use_invariant();
+        let last = self.next_id() - 1;
+        if let Fate::Here(_) = self.fate(last) {
+            self.retire(last, 0);
+        }
+    }
+
+    /// Takes the id back that was given out last, with the parcel that has it, where it is here. The room stays.
     pub fn take_back(&mut self)
         requires { 1 ≤ self.old.next }
         ensures parcels { self.new.parcels ≡ without_id (self.old.next - 1) self.old.parcels }
@@ -216,9 +231,8 @@ impl<A: Allocator> Parcels<A> {
         ensures fates { (before : List (Option ℕ)) (last : Option ℕ) → self.old.fates ≡ before ++ last ∷ []
             → self.new.fates ≡ before }
     {
-        if let Some(Place::Here(key)) = self.places.pop() {
-            self.slab.remove(key);
-        }
+        self.leave_last();
+        self.places.pop();
     }
 
     /// Gives a parcel another shape; its id and its key stay.

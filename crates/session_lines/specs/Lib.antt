@@ -1,5 +1,6 @@
 pub mod Lines
 pub mod Answers
+pub mod Deeds
 pub mod own
 pub use Rattle.line_files.specs.ClerkFile
 pub use Rattle.line_files.specs.TextLines

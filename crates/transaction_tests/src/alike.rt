@@ -30,7 +30,10 @@ fn is_same_entry<A: Allocator>(entry: &Entry<A>, other: &Entry<A>) -> bool {
 /// Whether these are such entries.
 fn are_same_entries<A: Allocator>(entries: &[Entry<A>], others: &[Entry<A>]) -> bool {
     entries.len() == others.len()
-        && entries.iter().zip(others).all(|(entry, other)| is_same_entry(entry, other))
+        && entries
+            .iter()
+            .zip(others)
+            .all(|(entry, other)| is_same_entry(entry, other))
 }
 
 /// Whether both have the same candidates between two corners.
@@ -77,9 +80,11 @@ pub fn are_alike<'a, H: Allocator>(
             return Ok(false);
         }
     }
-    Ok(fabric.refined() == other.refined()
-        && are_same_entries(fabric.journal(), other.journal())
-        && are_indexed_alike(fabric, other)?)
+    Ok(
+        fabric.refined() == other.refined()
+            && are_same_entries(fabric.journal(), other.journal())
+            && are_indexed_alike(fabric, other)?,
+    )
 }
 
 /// Whether both go on alike: an edit is answered the same by both, so that their next ids are the same.

@@ -13,7 +13,7 @@ const MOST: u64 = 1000;
 static DEED: [Change; 4] = [
     Change::Split(1, &[(0, 0), (50, 50)]),
     Change::Insert((0, 50), (0, 0), (0, 20)),
-    Change::Merge(6, 3),
+    Change::Merge(5, 3),
     Change::Merge(2, 4),
 ];
 

@@ -45,8 +45,16 @@ type Told = (&'static [Change], u32, Refusal);
 
 static TOLD: [Told; 3] = [
     (&[Change::Merge(99, 1)], 1, Refusal::Unknown(99)),
-    (&[Change::Merge(1, 9), Change::Merge(1, 2)], 1, Refusal::NotNeighbours),
-    (&[Change::Merge(1, 2), Change::Merge(1, 4)], 2, Refusal::Retired { id: 1, by: 1 }),
+    (
+        &[Change::Merge(1, 9), Change::Merge(1, 2)],
+        1,
+        Refusal::NotNeighbours,
+    ),
+    (
+        &[Change::Merge(1, 2), Change::Merge(1, 4)],
+        2,
+        Refusal::Retired { id: 1, by: 1 },
+    ),
 ];
 
 /// Makes the edits of a copy with growth `number` refused; whether it was. It is a failure where the answer is neither
@@ -119,11 +127,7 @@ fn all_or_nothing_at_each_growth(rt: HostRuntime) -> Result<(), Fail> {
 }
 
 /// Makes a list with each growth refused in turn: memory runs out only before the place that is refused.
-fn try_told<'a, H: Refuses>(
-    heap: &'a H,
-    before: &Fabric<'a, H>,
-    row: &Told,
-) -> Result<(), Fail> {
+fn try_told<'a, H: Refuses>(heap: &'a H, before: &Fabric<'a, H>, row: &Told) -> Result<(), Fail> {
     let edits = edits_of(heap, row.0)?;
     if edits.is_empty() || edits.len() > TRANSACTION_EDITS {
         return Err(Fail::new("no transaction"));

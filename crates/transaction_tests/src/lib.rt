@@ -1,4 +1,4 @@
-//! Tests of transactions: each list of edits as one beside the same edits one by one, each edit refused in turn, growths
+//! Tests of transactions: lists of edits as one beside the same edits one by one, each edit refused in turn, growths
 //! that are refused, long lists, and copies that follow.
 #![tactic(auto)]
 

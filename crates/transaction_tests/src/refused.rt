@@ -11,20 +11,36 @@ use std::test::Fail;
 type Refused = (&'static [Change], u32, Refusal);
 
 static ROWS: [Refused; 12] = [
-    (&[Change::Merge(1, 2), Change::Merge(99, 3)], 2, Refusal::Unknown(99)),
     (
-        &[Change::Merge(1, 2), Change::Merge(10, 3), Change::Merge(4, 10)],
+        &[Change::Merge(1, 2), Change::Merge(99, 3)],
+        2,
+        Refusal::Unknown(99),
+    ),
+    (
+        &[
+            Change::Merge(1, 2),
+            Change::Merge(10, 3),
+            Change::Merge(4, 10),
+        ],
         3,
         Refusal::Retired { id: 10, by: 2 },
     ),
-    (&[Change::Merge(1, 2), Change::Merge(4, 2)], 2, Refusal::Retired { id: 2, by: 1 }),
+    (
+        &[Change::Merge(1, 2), Change::Merge(4, 2)],
+        2,
+        Refusal::Retired { id: 2, by: 1 },
+    ),
     (&[Change::Merge(10, 3)], 1, Refusal::Unknown(10)),
     (
         &[Change::Merge(1, 2), Change::Split(10, &[(0, 0), (1, 1)])],
         2,
         Refusal::BadPath,
     ),
-    (&[Change::Merge(1, 2), Change::Merge(10, 9)], 2, Refusal::NotNeighbours),
+    (
+        &[Change::Merge(1, 2), Change::Merge(10, 9)],
+        2,
+        Refusal::NotNeighbours,
+    ),
     (
         &[
             Change::Merge(1, 2),
@@ -42,7 +58,7 @@ static ROWS: [Refused; 12] = [
     (
         &[
             Change::Insert((0, 0), (30, 0), (10, 0)),
-            Change::Split(1, &[(10, 0), (40, 10), (30, 30)]),
+            Change::Split(1, &[(10, 0), (32, 10), (30, 30)]),
         ],
         2,
         Refusal::Ring {
@@ -59,19 +75,30 @@ static ROWS: [Refused; 12] = [
         Refusal::NoSuchEdge,
     ),
     (
-        &[Change::Merge(1, 2), Change::Insert((0, 0), (30, 0), (10, 1))],
+        &[
+            Change::Merge(1, 2),
+            Change::Insert((0, 0), (30, 0), (10, 1)),
+        ],
         2,
         Refusal::NotOnEdge,
     ),
     (
-        &[Change::Merge(4, 5), Change::Straighten((5, 5)), Change::Merge(1, 2)],
+        &[
+            Change::Merge(4, 5),
+            Change::Straighten((5, 5)),
+            Change::Merge(1, 2),
+        ],
         2,
         Refusal::NoSuchCorner,
     ),
     (
-        &[Change::Merge(4, 5), Change::Merge(1, 2), Change::Straighten((60, 60))],
+        &[
+            Change::Merge(4, 5),
+            Change::Merge(1, 2),
+            Change::Straighten((60, 60)),
+        ],
         3,
-        Refusal::NotFlat(8),
+        Refusal::NotFlat(6),
     ),
 ];
 

@@ -3,4 +3,4 @@ use Rattle.fabric_core.proofs.edits.Bends.{AreStraight}
 use Rattle.fabric_core.proofs.change.first_bent.Given as goal
 
 abbrev pub invariant-loop-id : goal.invariant-loop-id
-invariant-loop-id g l = AreStraight l.at l.tiled.rows (take l.id-index l.ids)
+invariant-loop-id g l = AreStraight l.at l.tiled.kept.rows (take l.id-index l.ids)

@@ -15,19 +15,19 @@ returns-then-eq-clause-err g c = inr (inr (tt, inl (refl, inl (same_from_test c.
 
 pub returns-in_default-clause-err : goal.returns-in_default-clause-err
 returns-in_default-clause-err g c =
-    let rows = rows_with_edge c.args.from c.args.to c.args.tiled.now.rows in
+    let rows = rows_with_edge c.args.from c.args.to c.args.tiled.now.kept.rows in
     inr (inr (tt, inl (refl, inr (subst (λ found. IfNone found (rows ≡ [])) c.in_default.is c.in_ok-rows.ensures.none))))
 
 pub returns-then-not-is_between-clause-err : goal.returns-then-not-is_between-clause-err
 returns-then-not-is_between-clause-err g c =
-    let from = c.args.from in let to = c.args.to in let rows = rows_with_edge from to c.args.tiled.now.rows in
+    let from = c.args.from in let to = c.args.to in let rows = rows_with_edge from to c.args.tiled.now.kept.rows in
     let some : rows ≢ [] = subst (λ found. OnSome found (rows ≢ [])) c.in-Some.is c.in_ok-rows.ensures.some in
     let apart : from ≢ to = λ e. false≢true (c.if-eq.ensures ∙ ap (λ x. is_same from x) (sym e) ∙ is_same_itself from) in
     inr (inr (tt, inr (refl, (λ none. ⊎_elim apart some none), λ inside. false≢true (c.if-not-is_between.ensures.1 inside))))
 
 pub returns-clause-change : goal.returns-clause-change
 returns-clause-change g c =
-    let from = c.args.from in let to = c.args.to in let rows = rows_with_edge from to c.args.tiled.now.rows in
+    let from = c.args.from in let to = c.args.to in let rows = rows_with_edge from to c.args.tiled.now.kept.rows in
     let made = subst (λ found. IfSome found (λ made. rows_of_entry made.items ≡ map (renewed (PutIn from to c.args.at)) rows)) c.in-Some.is
     c.in_ok-rows.ensures.rows in record {
       two_ends = λ e. false≢true (c.if-eq.ensures ∙ ap (λ x. is_same from x) (sym e) ∙ is_same_itself from);
@@ -46,7 +46,7 @@ returns-in_err-rows-clause-memory g c = λ none.
 
 pub returns-in_err-out-clause-memory : goal.returns-in_err-out-clause-memory
 returns-in_err-out-clause-memory g c = λ none.
-    let from = c.args.from in let to = c.args.to in let rows = rows_with_edge from to c.args.tiled.now.rows in (
+    let from = c.args.from in let to = c.args.to in let rows = rows_with_edge from to c.args.tiled.now.kept.rows in (
       λ e. false≢true (c.if-eq.ensures ∙ ap (λ x. is_same from x) (sym e) ∙ is_same_itself from),
       subst (λ found. OnSome found (rows ≢ [])) c.in-Some.is c.in_ok-rows.ensures.some,
     )

@@ -10,14 +10,14 @@ use Rattle.fabric_core.proofs.change.merge_change.Goals as goal
 
 pub returns-in_err-first-clause-err : goal.returns-in_err-first-clause-err
 returns-in_err-first-clause-err g c =
-    let kept = c.args.tiled.now in let a = c.args.a in let b = c.args.b in let told = c.in_err-first.field-0.0 in
+    let kept = c.args.tiled.now.kept in let a = c.args.a in let b = c.args.b in let told = c.in_err-first.field-0.0 in
     passed_if c.from_residual.result told
     (λ refusal. IsStopped kept (a ∷ b ∷ []) (IsBorderRefusal (state_of kept) a b refusal) refusal) c.from_residual.ensures.1
     (first_gone kept a b (IsBorderRefusal (state_of kept) a b told) told c.in_err-first.ensures.err)
 
 pub returns-in_err-second-clause-err : goal.returns-in_err-second-clause-err
 returns-in_err-second-clause-err g c =
-    let kept = c.args.tiled.now in let a = c.args.a in let b = c.args.b in let told = c.in_err-second.field-0.0 in
+    let kept = c.args.tiled.now.kept in let a = c.args.a in let b = c.args.b in let told = c.in_err-second.field-0.0 in
     passed_if c.from_residual-in_err-second.result told
     (λ refusal. IsStopped kept (a ∷ b ∷ []) (IsBorderRefusal (state_of kept) a b refusal) refusal)
     c.from_residual-in_err-second.ensures.1
@@ -26,7 +26,7 @@ returns-in_err-second-clause-err g c =
 
 pub returns-in_err-ring-clause-err : goal.returns-in_err-ring-clause-err
 returns-in_err-ring-clause-err g c =
-    let kept = c.args.tiled.now in let a = c.args.a in let b = c.args.b in let fault = c.in_err-ring.field-0.0 in
+    let kept = c.args.tiled.now.kept in let a = c.args.a in let b = c.args.b in let fault = c.in_err-ring.field-0.0 in
     let here_a = subst (λ ring. Contains kept.rows (numbered a ring)) (sym c.as_slice.ensures) c.in_ok-first.ensures.ok in
     let here_b = subst (λ ring. Contains kept.rows (numbered b ring)) (sym c.as_slice-2.ensures) c.in_ok-second.ensures.ok in
     passed_if c.from_residual-in_err-ring.result (refusal_of fault)
@@ -37,18 +37,18 @@ returns-in_err-ring-clause-err g c =
 pub returns-in_err-first-clause-memory : goal.returns-in_err-first-clause-memory
 returns-in_err-first-clause-memory g c = λ none.
     let told = c.in_err-first.field-0.0 in
-    absurd (gone_otherwise c.args.tiled.now c.args.a told c.in_err-first.ensures.err
+    absurd (gone_otherwise c.args.tiled.now.kept c.args.a told c.in_err-first.ensures.err
     (passed_is c.from_residual.result told NoMemory c.from_residual.ensures.1 none))
 
 pub returns-in_err-second-clause-memory : goal.returns-in_err-second-clause-memory
 returns-in_err-second-clause-memory g c = λ none.
     let told = c.in_err-second.field-0.0 in
-    absurd (gone_otherwise c.args.tiled.now c.args.b told c.in_err-second.ensures.err
+    absurd (gone_otherwise c.args.tiled.now.kept c.args.b told c.in_err-second.ensures.err
     (passed_is c.from_residual-in_err-second.result told NoMemory c.from_residual-in_err-second.ensures.1 none))
 
 pub returns-in_err-ring-clause-memory : goal.returns-in_err-ring-clause-memory
 returns-in_err-ring-clause-memory g c = λ none.
-    let kept = c.args.tiled.now in let fault = c.in_err-ring.field-0.0 in
+    let kept = c.args.tiled.now.kept in let fault = c.in_err-ring.field-0.0 in
     let is : refusal_of fault ≡ NoMemory =
     passed_is c.from_residual-in_err-ring.result (refusal_of fault) NoMemory c.from_residual-in_err-ring.ensures.1 none in (
       c.as_slice.result.now,
@@ -60,7 +60,7 @@ returns-in_err-ring-clause-memory g c = λ none.
 
 pub returns-in_err-out-clause-memory : goal.returns-in_err-out-clause-memory
 returns-in_err-out-clause-memory g c = λ none.
-    let kept = c.args.tiled.now in (
+    let kept = c.args.tiled.now.kept in (
       c.as_slice.result.now,
       c.as_slice-2.result.now,
       subst (λ ring. Contains kept.rows (numbered c.args.a ring)) (sym c.as_slice.ensures) c.in_ok-first.ensures.ok,
@@ -70,7 +70,7 @@ returns-in_err-out-clause-memory g c = λ none.
 
 pub returns-in_err-rows-clause-memory : goal.returns-in_err-rows-clause-memory
 returns-in_err-rows-clause-memory g c = λ none.
-    let kept = c.args.tiled.now in (
+    let kept = c.args.tiled.now.kept in (
       c.as_slice.result.now,
       c.as_slice-2.result.now,
       subst (λ ring. Contains kept.rows (numbered c.args.a ring)) (sym c.as_slice.ensures) c.in_ok-first.ensures.ok,

@@ -20,19 +20,19 @@ use Rattle.fabric_core.proofs.draft.draft_of.Goals as goal
 
 pub is_within-requires-clause-here : goal.is_within-requires-clause-here
 is_within-requires-clause-here g c =
-    out_here (state_of c.args.tiled.now) c.use_invariant.ensures.balanced c.args.edit.now c.in_ok-change.change.out.items
+    out_here (state_of c.args.tiled.now.kept) c.use_invariant.ensures.balanced c.args.edit.now c.in_ok-change.change.out.items
     (rows_of_entry c.in_ok-change.change.rows.items) c.in_ok-change.ensures.change
 
 pub is_within-requires-clause-apart : goal.is_within-requires-clause-apart
 is_within-requires-clause-apart g c =
-    out_apart (state_of c.args.tiled.now) c.use_invariant.ensures.balanced c.args.edit.now c.in_ok-change.change.out.items
+    out_apart (state_of c.args.tiled.now.kept) c.use_invariant.ensures.balanced c.args.edit.now c.in_ok-change.change.out.items
     (rows_of_entry c.in_ok-change.change.rows.items) c.in_ok-change.ensures.change
 
 pub returns-then-not-is_within-clause-err : goal.returns-then-not-is_within-clause-err
 returns-then-not-is_within-clause-err g c =
     let out = c.in_ok-change.change.out.items in let rows = rows_of_entry c.in_ok-change.change.rows.items in
     inl (inr (
-      all_here (state_of c.args.tiled.now) c.use_invariant.ensures.balanced c.args.edit.now out rows c.in_ok-change.ensures.change,
+      all_here (state_of c.args.tiled.now.kept) c.use_invariant.ensures.balanced c.args.edit.now out rows c.in_ok-change.ensures.change,
       inr (
         out,
         rows,
@@ -44,18 +44,18 @@ returns-then-not-is_within-clause-err g c =
 
 pub corners_after-corners-requires-clause-here : goal.corners_after-corners-requires-clause-here
 corners_after-corners-requires-clause-here g c =
-    out_here (state_of c.args.tiled.now) c.use_invariant.ensures.balanced c.args.edit.now c.in_ok-change.change.out.items
+    out_here (state_of c.args.tiled.now.kept) c.use_invariant.ensures.balanced c.args.edit.now c.in_ok-change.change.out.items
     (rows_of_entry c.in_ok-change.change.rows.items) c.in_ok-change.ensures.change
 
 pub corners_after-corners-requires-clause-apart : goal.corners_after-corners-requires-clause-apart
 corners_after-corners-requires-clause-apart g c =
-    out_apart (state_of c.args.tiled.now) c.use_invariant.ensures.balanced c.args.edit.now c.in_ok-change.change.out.items
+    out_apart (state_of c.args.tiled.now.kept) c.use_invariant.ensures.balanced c.args.edit.now c.in_ok-change.change.out.items
     (rows_of_entry c.in_ok-change.change.rows.items) c.in_ok-change.ensures.change
 
 pub simple_shapes-requires-clause-short : goal.simple_shapes-requires-clause-short
 simple_shapes-requires-clause-short g c =
     subst (λ entries. AllByRecursion (λ row. length row.corners ≤ RING_CORNERS) (rows_of_entry entries)) (sym c.deref.ensures.value)
-    (news_short (rows_of_entry c.in_ok-change.change.rows.items) (without_ids c.in_ok-change.change.out.items c.args.tiled.now.rows)
+    (news_short (rows_of_entry c.in_ok-change.change.rows.items) (without_ids c.in_ok-change.change.out.items c.args.tiled.now.kept.rows)
     (c.is_within.ensures.0 c.if-not-is_within.false))
 
 pub simple_shapes-requires-clause-few : goal.simple_shapes-requires-clause-few
@@ -63,7 +63,8 @@ simple_shapes-requires-clause-few g c =
     let rows = rows_of_entry c.in_ok-change.change.rows.items in
     omega (
       arith,
-      news_few rows (without_ids c.in_ok-change.change.out.items c.args.tiled.now.rows) (c.is_within.ensures.0 c.if-not-is_within.false),
+      news_few rows (without_ids c.in_ok-change.change.out.items c.args.tiled.now.kept.rows)
+      (c.is_within.ensures.0 c.if-not-is_within.false),
       length-map c.in_ok-change.change.rows.items row_of,
       ap length c.deref.ensures.value,
     )
@@ -71,11 +72,11 @@ simple_shapes-requires-clause-few g c =
 pub returns-in_err-shapes-clause-err : goal.returns-in_err-shapes-clause-err
 returns-in_err-shapes-clause-err g c =
     let out = c.in_ok-change.change.out.items in let rows = rows_of_entry c.in_ok-change.change.rows.items in
-    let r = c.in_err-shapes.field-0.0 in let state = state_of c.args.tiled.now in
+    let r = c.in_err-shapes.field-0.0 in let state = state_of c.args.tiled.now.kept in
     let why : IsRingRefusal rows r ⊎ (r ≡ NoMemory) =
     subst (λ entries. IsRingRefusal (rows_of_entry entries) r ⊎ (r ≡ NoMemory)) c.deref.ensures.value c.in_err-shapes.ensures.err in
     passed_if c.from_residual-in_err-shapes.result r (λ refusal.
-    IsDraftRefusal c.args.tiled.now c.args.edit.now refusal ⊎ (refusal ≡ NoMemory))
+    IsDraftRefusal c.args.tiled.now.kept c.args.edit.now refusal ⊎ (refusal ≡ NoMemory))
     c.from_residual-in_err-shapes.ensures.1
     (⊎_elim
     (λ ring. inl (inr (
@@ -92,7 +93,7 @@ returns-in_err-shapes-clause-err g c =
 pub returns-clause-is_entry : goal.returns-clause-is_entry
 returns-clause-is_entry g c =
     let out = c.in_ok-change.change.out.items in let rows = rows_of_entry c.in_ok-change.change.rows.items in
-    let state = state_of c.args.tiled.now in
+    let state = state_of c.args.tiled.now.kept in
     let edit = c.new.ensures.edit ∙ c.in_ok-edit.ensures.cases in
     let change : IsChange state c.args.edit.now c.new.result.out c.new.result.rows =
     subst (λ xs. IsChange state c.args.edit.now xs c.new.result.rows) (sym c.new.ensures.out)
@@ -102,22 +103,22 @@ returns-clause-is_entry g c =
       is_change = subst (λ e. IsChange state e c.new.result.out c.new.result.rows) (sym edit) change;
       are_simple = subst AreSimple (sym c.new.ensures.rows) (simple_news c.in_ok-shapes.shapes.items rows
           (c.in_ok-shapes.ensures.ok ∙ ap (λ entries. corner_lists (rows_of_entry entries)) c.deref.ensures.value));
-      within = subst (λ xs. AreWithinLayerLimits (with_rows c.new.result.rows (without_ids xs c.args.tiled.now.rows)))
+      within = subst (λ xs. AreWithinLayerLimits (with_rows c.new.result.rows (without_ids xs c.args.tiled.now.kept.rows)))
           (sym c.new.ensures.out)
-          (subst (λ xs. AreWithinLayerLimits (with_rows xs (without_ids out c.args.tiled.now.rows))) (sym c.new.ensures.rows)
+          (subst (λ xs. AreWithinLayerLimits (with_rows xs (without_ids out c.args.tiled.now.kept.rows))) (sym c.new.ensures.rows)
           (c.is_within.ensures.0 c.if-not-is_within.false));
     }
 
 pub returns-clause-here : goal.returns-clause-here
 returns-clause-here g c =
-    all_here (state_of c.args.tiled.now) c.use_invariant.ensures.balanced c.args.edit.now c.in_ok-change.change.out.items
+    all_here (state_of c.args.tiled.now.kept) c.use_invariant.ensures.balanced c.args.edit.now c.in_ok-change.change.out.items
     (rows_of_entry c.in_ok-change.change.rows.items) c.in_ok-change.ensures.change
 
 pub returns-in_err-change-clause-err : goal.returns-in_err-change-clause-err
 returns-in_err-change-clause-err g c =
     let r = c.in_err-change.field-0.0 in
     passed_if c.from_residual.result r (λ refusal.
-    IsDraftRefusal c.args.tiled.now c.args.edit.now refusal ⊎ (refusal ≡ NoMemory))
+    IsDraftRefusal c.args.tiled.now.kept c.args.edit.now refusal ⊎ (refusal ≡ NoMemory))
     c.from_residual.ensures.1
     (⊎_elim
     (λ none. inr none)
@@ -132,11 +133,11 @@ returns-in_err-change-clause-memory g c = λ none.
 pub returns-in_err-shapes-clause-memory : goal.returns-in_err-shapes-clause-memory
 returns-in_err-shapes-clause-memory g c = λ none.
     let balanced = c.use_invariant.ensures.balanced in
-    change_asks (state_of c.args.tiled.now) balanced.simple balanced.ids.up c.args.edit.now c.in_ok-change.change.out.items
+    change_asks (state_of c.args.tiled.now.kept) balanced.simple balanced.ids.up c.args.edit.now c.in_ok-change.change.out.items
     (rows_of_entry c.in_ok-change.change.rows.items) c.in_ok-change.ensures.change
 
 pub returns-in_err-edit-clause-memory : goal.returns-in_err-edit-clause-memory
 returns-in_err-edit-clause-memory g c = λ none.
     let balanced = c.use_invariant.ensures.balanced in
-    change_asks (state_of c.args.tiled.now) balanced.simple balanced.ids.up c.args.edit.now c.in_ok-change.change.out.items
+    change_asks (state_of c.args.tiled.now.kept) balanced.simple balanced.ids.up c.args.edit.now c.in_ok-change.change.out.items
     (rows_of_entry c.in_ok-change.change.rows.items) c.in_ok-change.ensures.change

@@ -7,4 +7,4 @@ use Rattle.fabric_core.proofs.edges.is_any_changed.Given as goal
 abbrev pub invariant-loop-shape : goal.invariant-loop-shape
 invariant-loop-shape g l =
     list_any (λ row. is_changed l.change row.corners) (rows_of_shapes l.shape-iterator)
-    ≡ list_any (λ row. is_changed l.change row.corners) l.tiled.rows
+    ≡ list_any (λ row. is_changed l.change row.corners) l.tiled.kept.rows

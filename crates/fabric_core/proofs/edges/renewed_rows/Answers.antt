@@ -19,7 +19,7 @@ use Rattle.fabric_core.proofs.edges.renewed_rows.Goals.{in-Some-2+in_ok-push, in
 use Rattle.fabric_core.proofs.edges.renewed_rows.Goals as goal
 
 pub loop-id-init : goal.loop-id-init
-loop-id-init g c = rw c.new-rows.ensures.items (none_renewed c.args.tiled.now.rows c.args.change)
+loop-id-init g c = rw c.new-rows.ensures.items (none_renewed c.args.tiled.now.kept.rows c.args.change)
 
 pub unreachable-requires : goal.unreachable-requires
 unreachable-requires g c =
@@ -31,7 +31,7 @@ unreachable-requires g c =
 
 pub loop-id-preserved-then-not-holds : goal.loop-id-preserved-then-not-holds
 loop-id-preserved-then-not-holds g c =
-    let rows = c.args.tiled.now.rows in let change = c.args.change in
+    let rows = c.args.tiled.now.kept.rows in let change = c.args.change in
     let items = c.deref-id-items.result.now in let k = c.loop-id.id-index in let id = get_or items k 0 in
     let shape = c.in-Some.shape.now in
     let up = ascending rows (subst IsStrictlyIncreasing c.ids-ids.ensures.ids c.ids-ids.ensures.ascending) in
@@ -44,7 +44,7 @@ loop-id-preserved-then-not-holds g c =
 
 pub loop-id-preserved : goal.loop-id-preserved
 loop-id-preserved g c =
-    let rows = c.args.tiled.now.rows in let change = c.args.change in
+    let rows = c.args.tiled.now.kept.rows in let change = c.args.change in
     let items = c.deref-id-items.result.now in let k = c.loop-id.id-index in let id = get_or items k 0 in
     let ring = c.as_slice.result.now in let entries = c.loop-id.rows.items in
     let up = ascending rows (subst IsStrictlyIncreasing c.ids-ids.ensures.ids c.ids-ids.ensures.ascending) in
@@ -74,14 +74,15 @@ loop-id-preserved g c =
 
 pub returns : goal.returns
 returns g c =
-    let rows = c.args.tiled.now.rows in let change = c.args.change in
+    let rows = c.args.tiled.now.kept.rows in let change = c.args.change in
     let items = c.deref-id-items.result.now in
     let up = ascending rows (subst IsStrictlyIncreasing c.ids-ids.ensures.ids c.ids-ids.ensures.ascending) in
     all_renewed rows change (take c.loop-id.id-index items) (rows_of_entry c.loop-id.rows.items) up
     (λ row is has. subst (λ ids. Contains ids row.number) (sym c.deref-id-items.ensures.value
     ∙ sym (take_all c.loop-id.id-index items c.loop-id-test.false))
     ((c.in_ok-ids.ensures.exactly row.number).1
-    (subst (λ corner. IsCandidate rows c.args.tiled.now.city corner corner row.number) (sym c.corner-corner.ensures)
-    (changed_is_candidate change rows c.args.tiled.now.city c.args.tiled.now.index row c.use_invariant.ensures.indexed c.requires.in_area
+    (subst (λ corner. IsCandidate rows c.args.tiled.now.kept.city corner corner row.number) (sym c.corner-corner.ensures)
+    (changed_is_candidate change rows c.args.tiled.now.kept.city c.args.tiled.now.kept.index row
+    c.use_invariant.ensures.indexed c.requires.in_area
     is has))))
     c.loop-id.invariant

@@ -7,7 +7,8 @@ use Rattle.fabric_core.proofs.new_limits.corners_after.Goals as goal
 
 pub count-requires : goal.count-requires
 count-requires g c =
-    let rows = c.args.tiled.now.rows in let out = c.args.change.now.out.items in let news = rows_of_entry c.args.change.now.rows.items in
+    let rows = c.args.tiled.now.kept.rows in let out = c.args.change.now.out.items in
+    let news = rows_of_entry c.args.change.now.rows.items in
     omega (
       arith,
       ap (λ entries. corner_count (rows_of_entry entries)) c.deref-2.ensures.value,
@@ -17,7 +18,8 @@ count-requires g c =
 
 pub overflow_add-result : goal.overflow_add-result
 overflow_add-result g c =
-    let rows = c.args.tiled.now.rows in let out = c.args.change.now.out.items in let news = rows_of_entry c.args.change.now.rows.items in
+    let rows = c.args.tiled.now.kept.rows in let out = c.args.change.now.out.items in
+    let news = rows_of_entry c.args.change.now.rows.items in
     omega (
       arith,
       c.corners_left.ensures.corners,
@@ -30,7 +32,8 @@ overflow_add-result g c =
 
 pub returns : goal.returns
 returns g c =
-    let rows = c.args.tiled.now.rows in let out = c.args.change.now.out.items in let news = rows_of_entry c.args.change.now.rows.items in
+    let rows = c.args.tiled.now.kept.rows in let out = c.args.change.now.out.items in
+    let news = rows_of_entry c.args.change.now.rows.items in
     omega (
       arith,
       c.corners_left.ensures.corners,

@@ -10,7 +10,7 @@ use Rattle.fabric_core.proofs.new_limits.is_within.Goals as goal
 
 pub add_within-requires : goal.add_within-requires
 add_within-requires g c =
-    let rows = c.args.tiled.now.rows in
+    let rows = c.args.tiled.now.kept.rows in
     omega (
       arith,
       c.corners_left-left.ensures.corners,
@@ -20,7 +20,7 @@ add_within-requires g c =
 
 pub returns : goal.returns
 returns g c =
-    let rows = c.args.tiled.now.rows in let ids = c.deref.result.now in let out = c.args.change.now.out.items in
+    let rows = c.args.tiled.now.kept.rows in let ids = c.deref.result.now in let out = c.args.change.now.out.items in
     let news = rows_of_entry c.args.change.now.rows.items in let entries = rows_of_entry c.deref-2.result.now in
     let left = c.corners_left-left.result in
     let number : c.len.result - c.len-2.result ≡ length (without_ids ids rows) =
