@@ -108,3 +108,4 @@ def test_a_file_that_holds_no_drafts_is_refused(served):
     served.journal.with_name("register.txt.drafts").write_text("[{}]")
     with pytest.raises(AssertionError, match="has no drafts as they were written"):
         served.start()
+    assert served.process.wait(30) == 1
