@@ -3,4 +3,5 @@ pub mod Keywords
 pub mod Names
 pub mod Plain
 pub mod Projections
-pub mod Readings
+pub mod Tokens
+pub mod own

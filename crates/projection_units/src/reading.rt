@@ -2,8 +2,8 @@
 
 ghost use Rattle.std.specs.Prelude.{◌≡◌, ◌≤◌, ◌<◌, ◌+◌, ◌^◌, length};
 ghost use Rattle.projection_units.specs.Projections.{unit_said};
-ghost use Rattle.projection_units.specs.Readings as readings;
-ghost use Rattle.projection_units.specs.Readings.{behind_name, behind_word, unit_behind, meets_unit};
+ghost use Rattle.projection_units.specs.own.Readings as readings;
+ghost use Rattle.projection_units.specs.own.Readings.{behind_name, behind_word, unit_behind, meets_unit};
 
 use crate::factors::unit_by;
 use crate::keywords::{is_globe, is_later, is_plane, is_unit};

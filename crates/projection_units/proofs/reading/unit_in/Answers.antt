@@ -1,15 +1,19 @@
-use Rattle.std.proofs.Common.{◌≡◌, ◌+◌, ◌∙◌, ℕ, List, ap, sym, add-one}
-use Rattle.projection_units.specs.Readings.{next, read_to}
-use Rattle.projection_units.specs.declared.reading.Reading.{Reading}
+use Rattle.std.proofs.Common.{◌+◌, ◌∙◌, false, ap, sym}
+use Rattle.projection_units.proofs.Readings.{at_the_end, reads_on, read_whole, says, before_the_plane}
+use Rattle.projection_units.specs.Tokens.{tokens}
 use Rattle.projection_units.proofs.reading.unit_in.Goals as goal
-
-one_more : (text : List ℕ) (at : ℕ) (reading result : Reading)
-    → result ≡ next text at reading → reading ≡ read_to text at → result ≡ read_to text (at + 1)
-one_more text at reading result said was = said ∙ ap (next text at) was ∙ sym (ap (read_to text) (add-one at))
 
 pub loop-at-preserved : goal.loop-at-preserved
 loop-at-preserved c = record {
-  read = one_more c.args.text.now c.loop-at.at c.loop-at.reading c.next-reading.result c.next-reading.ensures.next
-      c.loop-at.invariant.read;
+  whole = ap (at_the_end c.args.text.now (c.loop-at.at + 1)) c.next-reading.ensures.next
+      ∙ reads_on c.args.text.now c.loop-at.at c.loop-at-test.true c.loop-at.reading c.loop-at.invariant.word
+      ∙ c.loop-at.invariant.whole;
   word = c.next-reading.ensures.word;
 }
+
+pub returns : goal.returns
+returns c =
+    let text = c.args.text.now in
+    c.said.ensures
+    ∙ ap says (sym (read_whole text c.loop-at.at c.loop-at.reading c.loop-at-test.false) ∙ c.loop-at.invariant.whole)
+    ∙ before_the_plane (tokens text) false

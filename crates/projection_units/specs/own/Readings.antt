@@ -1,7 +1,7 @@
--- What was read of a projection's text, byte by byte (this product's own). A word is what stands between two of the
--- bytes `"` (34), `(` (40), `)` (41), `,` (44), `[` (91) and `]` (93), but for spaces and line ends before it; in a
--- name, which quotes enclose, only a quote counts.
-use Rattle.std.specs.Prelude.{ℕ, zero, suc, ◌+◌, Bool, true, false, ◌&&◌, ◌||◌, ◌==◌, nat_lt, List, length}
+-- What was read of a projection's text, byte by byte. Public contracts do not speak of it. A word is what stands
+-- between two of the bytes `"` (34), `(` (40), `)` (41), `,` (44), `[` (91) and `]` (93), but for spaces and line ends
+-- before it; in a name, which quotes enclose, only a quote counts.
+use Rattle.std.specs.Prelude.{ℕ, ◌+◌, Bool, true, false, ◌&&◌, ◌||◌, ◌==◌, nat_lt, List, length}
 use Rattle.std.specs.Prelude.{slice_index, slice_range, if◌then◌else◌}
 use Rattle.projection_units.specs.Factors.{stated_by}
 use Rattle.projection_units.specs.Keywords.{plane_word, later_word, globe_word, unit_word}
@@ -83,11 +83,6 @@ next text at reading =
 -- before the first byte
 abbrev pub begun : Reading
 begun = record { quoted = false; word = 0; place = Before; awaited = Nothing; globe = false; unit = Unclear }
-
--- behind so many bytes
-abbrev pub read_to : List ℕ → ℕ → Reading
-read_to text zero = begun
-read_to text (suc count) = next text count (read_to text count)
 
 -- what a text says, by all of it
 abbrev pub said : Place → Bool → Stated → Stated
