@@ -1,12 +1,18 @@
 //! The named pipes of desks.
 
 use crate::start_fault::StartFault;
+use arrayvec::ArrayString;
 use city_layers::Disk;
+use session_rooms::Door;
 use std::alloc::{AllocError, Allocator};
+use std::fmt::Write;
 use std::fs::{File, OpenOptions};
+use std::io::ErrorKind;
+use std::os::fd::AsRawFd;
 use std::os::unix::fs::{FileTypeExt, MetadataExt, OpenOptionsExt};
 use std::rt::{Clock, Files};
 use std::sync::atomic::AtomicBool;
+use std::sync::{Mutex, Wait};
 use std::time::Duration;
 use std::{io, thread};
 
@@ -20,9 +26,8 @@ pub(crate) const ANSWERS: &str = ".out";
 /// whoever holds one open is its client's other end.
 pub(crate) const LOCK: &str = ".lock";
 
-/// How the path of the session's own name of a pipe ends, behind that of the pipe. By it the pipe is opened and its
-/// desk is woken, also where somebody has unlinked the pipe meanwhile.
-const OWN_NAME: &str = ".held";
+/// How many bytes the name of an open file has at most: `/proc/self/fd/` and its number.
+const NAME_BYTES: usize = 32;
 
 /// What of a pipe's mode lets every user read or write it.
 const EVERY_USER: u32 = 0o006;
@@ -78,12 +83,20 @@ fn pipe(file: File) -> io::Result<File> {
     }
 }
 
-/// The paths of a desk's pipes, where they can be the session's own names of them: the lines that are asked come in at
-/// the one, and the answers go out at the other.
+/// A desk's pipes: the lines that are asked come in at the one, and the answers go out at the other. Either is opened
+/// by an end that the session has of it already, so that it is found whatever becomes of its path.
 #[derive(Drop)]
 pub(crate) struct Paths<A: Allocator> {
-    pub(crate) lines: String<A>,
-    pub(crate) answers: String<A>,
+    lines: String<A>,
+    answers: String<A>,
+    /// The session's own end of the pipe of the lines, which is never read. So a client that comes early has a pipe
+    /// that is read.
+    asked: File,
+    /// The session's own end of the pipe of the answers, to which nothing is written: while the desk has a client, or
+    /// one has opened the pipe of the lines. Between two clients there is none, so that the answers to one end.
+    answered: Mutex<Option<File>>,
+    /// Whether the system shows a process its open files under their numbers.
+    shows_files: bool,
     /// Held as long as the desk is served.
     pub(crate) lock: File,
     /// Whether the desk waits for a line.
@@ -92,14 +105,117 @@ pub(crate) struct Paths<A: Allocator> {
     pub(crate) serves: AtomicBool,
 }
 
-/// The pipes of desks with these names: NAME.in and NAME.out of each. None is opened; NAME.lock is held.
+/// By what a pipe is opened.
+#[derive(Drop)]
+enum Name<'p> {
+    /// As the system shows an end of it that is open.
+    Own(ArrayString<NAME_BYTES>),
+    Path(&'p str),
+}
+
+impl<'p> Name<'p> {
+    fn as_str(&self) -> &str {
+        match self {
+            Name::Own(name) => name.as_str(),
+            Name::Path(path) => path,
+        }
+    }
+}
+
+impl<A: Allocator> Paths<A> {
+    /// Opens both pipes, that of the lines and that of the answers: waits for a client.
+    ///
+    /// # Errors
+    ///
+    /// The system's; [`ErrorKind::NotConnected`] where the session closes.
+    pub(crate) fn open_both<P: Pipes, R: Wait>(
+        &self,
+        rt: &R,
+        door: &Door,
+        pipes: &P,
+    ) -> io::Result<(File, File)> {
+        let lines = pipes.open_to_read(self.name_of(Some(&self.asked), &self.lines).as_str())?;
+        let answers = pipes.open_to_write(self.begin_answers(rt, door, pipes)?.as_str())?;
+        Ok((lines, answers))
+    }
+
+    /// Takes an own end of the pipe of the answers, and says by what the pipe is opened. Where its path is gone there
+    /// is none, and the pipe is not opened either.
+    fn begin_answers<P: Pipes, R: Wait>(
+        &self,
+        rt: &R,
+        door: &Door,
+        pipes: &P,
+    ) -> io::Result<Name<'_>> {
+        let mut answered = self.answered.lock(rt);
+        // Whoever closes the session says so before it looks for the end: so it finds each that is taken.
+        if door.is_closing() {
+            return Err(io::Error::from(ErrorKind::NotConnected));
+        }
+        *answered = self.end_of_answers(pipes).ok();
+        Ok(self.name_of(answered.as_ref(), &self.answers))
+    }
+
+    /// An end of the pipe of the answers to write, without waiting for who reads.
+    fn end_of_answers<P: Pipes>(&self, pipes: &P) -> io::Result<File> {
+        let both = pipes.open_for_both(self.answers.as_str())?;
+        pipes.open_to_write(self.name_of(Some(&both), &self.answers).as_str())
+    }
+
+    /// Lets the own end of the pipe of the answers go, once a client was served.
+    pub(crate) fn end_answers<R: Wait>(&self, rt: &R) {
+        *self.answered.lock(rt) = None;
+    }
+
+    /// Opens the pipe of the lines for both, which wakes a desk that waits for a client, and then to write.
+    pub(crate) fn open_asked<P: Pipes>(&self, pipes: &P) -> io::Result<(File, File)> {
+        let name = self.name_of(Some(&self.asked), &self.lines);
+        let both = pipes.open_for_both(name.as_str())?;
+        let end = pipes.open_to_write(name.as_str())?;
+        Ok((both, end))
+    }
+
+    /// Opens the pipe of the answers for both, which wakes a desk that waits for who reads, and then to read.
+    pub(crate) fn open_answered<P: Pipes, R: Wait>(
+        &self,
+        rt: &R,
+        pipes: &P,
+    ) -> io::Result<(File, File)> {
+        let answered = self.answered.lock(rt);
+        let name = self.name_of(answered.as_ref(), &self.answers);
+        let both = pipes.open_for_both(name.as_str())?;
+        let end = pipes.open_to_read(name.as_str())?;
+        Ok((both, end))
+    }
+
+    /// By what a pipe at a path is opened of which this end is open, if there is one.
+    fn name_of<'p>(&self, end: Option<&File>, path: &'p String<A>) -> Name<'p> {
+        match end {
+            Some(end) if self.shows_files => Name::Own(own_name(end)),
+            _ => Name::Path(path.as_str()),
+        }
+    }
+}
+
+/// As the system shows an open file of this process.
+fn own_name(file: &File) -> ArrayString<NAME_BYTES> {
+    let mut name = ArrayString::new();
+    // There is room for any number.
+    let _ = write!(name, "/proc/self/fd/{}", file.as_raw_fd());
+    name
+}
+
+/// The pipes of desks with these names: NAME.in and NAME.out of each. NAME.in has an end from then on; NAME.lock is
+/// held.
 ///
 /// # Errors
 ///
 /// [`StartFault::NoPipe`] (S4) with the first path at which is no named pipe, or one of those before, or one that every
-/// user can read or write, or a lock that another session holds; [`StartFault::Run`] where an allocation fails.
-pub(crate) fn find_pipes<'a, F: Files<File = File>, A: Allocator + Copy>(
+/// user can read or write, or one of lines that can't be opened, or a lock that another session holds;
+/// [`StartFault::Run`] where an allocation fails.
+pub(crate) fn find_pipes<'a, F: Files<File = File>, P: Pipes, A: Allocator + Copy>(
     files: &F,
+    pipes: &P,
     alloc: A,
     names: &[&'a str],
 ) -> Result<Vec<Paths<A>, A>, StartFault<'a, A>> {
@@ -118,9 +234,15 @@ pub(crate) fn find_pipes<'a, F: Files<File = File>, A: Allocator + Copy>(
         let Ok(lock) = hold(files, lock.as_str()) else {
             return Err(StartFault::NoPipe(*name, LOCK));
         };
+        let Ok((asked, shows_files)) = end_of_lines(pipes, lines.as_str()) else {
+            return Err(StartFault::NoPipe(*name, LINES));
+        };
         all.push(Paths {
-            lines: own_name(files, alloc, lines)?,
-            answers: own_name(files, alloc, answers)?,
+            lines,
+            answers,
+            asked,
+            answered: Mutex::new(None),
+            shows_files,
             lock,
             asks: AtomicBool::new(false),
             serves: AtomicBool::new(false),
@@ -129,35 +251,12 @@ pub(crate) fn find_pipes<'a, F: Files<File = File>, A: Allocator + Copy>(
     Ok(all)
 }
 
-/// Gives a pipe the session's own name, and answers it; the pipe's path where that can't be made. A name that a session
-/// which was killed has left goes; any other file stays.
-fn own_name<F: Files, A: Allocator + Copy>(
-    files: &F,
-    alloc: A,
-    path: String<A>,
-) -> Result<String<A>, AllocError> {
-    let own = format!(in alloc; "{path}{OWN_NAME}")?;
-    let_go_of(files, own.as_str());
-    match files.hard_link(path.as_str(), own.as_str()) {
-        Ok(()) => Ok(own),
-        Err(_) => Ok(path),
-    }
-}
-
-/// Removes the session's own name of a pipe, if that is one.
-fn let_go_of<F: Files>(files: &F, own: &str) {
-    if let Ok(metadata) = files.symlink_metadata(own) {
-        if own.ends_with(OWN_NAME) && metadata.file_type().is_fifo() {
-            let _ = files.remove_file(own);
-        }
-    }
-}
-
-/// Removes the session's own names of all pipes.
-pub(crate) fn let_go<F: Files, A: Allocator>(files: &F, paths: &[Paths<A>]) {
-    for desk in paths {
-        let_go_of(files, desk.lines.as_str());
-        let_go_of(files, desk.answers.as_str());
+/// An end of the pipe of lines to read, without waiting for who writes; and whether the system shows open files.
+fn end_of_lines<P: Pipes>(pipes: &P, path: &str) -> io::Result<(File, bool)> {
+    let both = pipes.open_for_both(path)?;
+    match pipes.open_to_read(own_name(&both).as_str()) {
+        Ok(end) => Ok((end, true)),
+        Err(_) => Ok((pipes.open_to_read(path)?, false)),
     }
 }
 

@@ -13,7 +13,7 @@ use crate::journal_file::{DiskFile, DiskSynchroniser, Machine};
 use crate::offices::{clerks_of, seat_all, windows_of};
 use crate::operator::Operator;
 use crate::own_files::OwnFiles;
-use crate::pipes::{Paths, Pipes, find_pipes, let_go};
+use crate::pipes::{Paths, Pipes, find_pipes};
 use crate::reports::Exports;
 use crate::serving::{Reception, serve};
 use crate::start_fault::StartFault;
@@ -77,9 +77,8 @@ pub fn serve_session<
     // Held to the end: no file of the session gets the number of one of the three that was closed at its start.
     let standard = (open_null(rt), open_null(rt), open_null(rt));
     refuse_many_clerks(plan.desks.len())?;
-    let paths = find_pipes(rt, heap, plan.desks.as_slice())?;
+    let paths = find_pipes(rt, disk, heap, plan.desks.as_slice())?;
     let served = serve_at(rt, disk, heap, plan, paths.as_slice());
-    let_go(rt, paths.as_slice());
     drop(standard);
     served
 }

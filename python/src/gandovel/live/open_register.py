@@ -2,7 +2,6 @@
 from __future__ import annotations
 
 import os
-import tempfile
 from pathlib import Path
 from types import TracebackType
 from typing import Any, Callable, Dict, Iterable, List, Optional, Sequence, Tuple, Type, Unpack
@@ -26,6 +25,7 @@ from ..reading.prepared import OUT_ROW, Prepared
 from ..reading.register import Options, Register, register_of
 from .answers import Accepted
 from .desk_calls import Calls
+from .own_folder import OwnFolder
 from .session import Session
 from .tail import History
 from .transaction import Transaction
@@ -125,7 +125,7 @@ class OpenRegister:
     ) -> None:
         """Begins the session; `open` says what is taken, and `at` is the island, from 0."""
         self.prepared, self._at = prepared, at
-        self._folder = tempfile.TemporaryDirectory(prefix="gandovel-")
+        self._folder = OwnFolder()
         self._parcels: Optional[Tuple[int, gpd.GeoDataFrame]] = None
         self._rows = prepared.islands[at].parcels.source
         try:

@@ -21,6 +21,7 @@ from ..errors import ProgramEnded, Refused, SessionClosed, TimedOut
 from ..program.tool import PathLike, find_tool
 from .answers import Overlaps, Tiling, count_of, overlaps_of, start_refused, test_error, tiling_of
 from .desk_calls import Calls
+from .own_folder import OwnFolder
 from .pipes import Wire, left_of, limit_of, open_pipes, pause
 
 LINE_END = b"#\n"
@@ -68,7 +69,8 @@ class Session(Calls):
 
     Without named desks all calls of `Calls` are made here. With desks no edit is, and with eight no question. A context
     that is left by an exception ends the program as `terminate` does. Where this process ends, however that is, the
-    program finds the end of its input, and closes.
+    program finds the end of its input, and closes. A forked child lets go of what it has of the session by `close`, by
+    `terminate` or by its end, and its parent's session goes on; any other call there is a `SessionClosed`.
 
     Examples
     --------
@@ -109,7 +111,8 @@ class Session(Calls):
         Refused as the program's commands are (H2, S1 ..); `JournalRefused`, `JournalInUse`; `ProgramEnded`; `TimedOut`.
         """
         self._journal = None if journal is None else os.fspath(journal)
-        self._folder = tempfile.TemporaryDirectory(prefix="gandovel-")
+        self._owner = os.getpid()
+        self._folder = OwnFolder()
         self._errors = tempfile.TemporaryFile()
         self._opened: List[Desk] = []
         self._names = tuple(desks)
@@ -195,6 +198,9 @@ class Session(Calls):
             return self._last
         for desk in self._opened:
             desk.close()
+        if os.getpid() != self._owner:
+            self._end()
+            return None
         try:
             self._last = self._closed()
         except TimedOut:
@@ -276,6 +282,10 @@ class Session(Calls):
     def _test_running(self) -> None:
         if self._notes is not None:
             raise SessionClosed("closed", "the session was closed")
+        if os.getpid() != self._owner:
+            raise SessionClosed(
+                "closed", "the session is of the process that began it; open a desk by gandovel.Desk.at"
+            )
         if self._process.poll() is not None:
             raise self._ended()
 
@@ -289,8 +299,13 @@ class Session(Calls):
         return ProgramEnded("T2", " ".join([f"the program ended {how}", *self.notes[-1:]]))
 
     def _end(self) -> None:
-        """Ends the program where it runs, and takes away what the session has of its own."""
+        """Ends the program where it runs, and takes away what the session has of its own. A forked child only lets go
+        of its copies."""
         if self._notes is not None:
+            return
+        if os.getpid() != self._owner:
+            self._wire.close()
+            self._forget()
             return
         self._ask_to_end()
         self._wire.close()
