@@ -58,7 +58,7 @@ def sum_of_program(root: Path) -> str:
 
 
 def with_sum(text: str, verdict: str, texts: str) -> Tuple[str, int]:
-    """The text of `TEXTS` with this verdict, `proved` or `unproved`, and this sum; and in how many places it has them."""
+    """The text of `TEXTS` with this verdict, `proved` or `unproved`, and this sum; and in how many places it has it."""
     return re.subn(r"\b(?:un)?proved, texts [0-9a-f]{64}\b", f"{verdict}, texts {texts}", text)
 
 
