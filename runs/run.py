@@ -21,6 +21,7 @@ $ WORDS               the command line, in which \\xFF is a byte; further ones r
 < TEXT                a line of standard input, of which there is none else
 > TEXT, 2> TEXT       a line of standard output, of standard error; all lines that must come
 >* FIRST LAST TEXT    a line TEXT for each number, which stands for {}
+>~ PATTERN            a line of standard output that this expression has to match as a whole
 [N]                   the last one's status, 0 where it is left out; the others' is 0
 = NAME: RECIPE        a file that has to stand in the folder then, with these bytes
 =# NAME: LINE / ..    a journal that has to stand there then, with these lines, but for those that begin with `#`
@@ -97,6 +98,8 @@ def rows_of(path):
             elif mark == ">*":
                 first, last, each = text.split(" ", 2)
                 rows[-1].stdout += [each.replace("{}", str(it)) for it in range(int(first), int(last) + 1)]
+            elif mark == ">~":
+                rows[-1].stdout.append(re.compile(text))
             elif mark == "2>":
                 rows[-1].stderr.append(text)
             elif re.fullmatch(r"\[[0-9]+\]", mark):
@@ -195,6 +198,14 @@ def text_of(lines):
     return "".join(line + "\n" for line in lines).encode()
 
 
+def fits(came, wanted):
+    """Whether a stream has the wanted lines, of which some may be expressions."""
+    if all(isinstance(it, str) for it in wanted):
+        return came == text_of(wanted)
+    lines = [re.escape(it) if isinstance(it, str) else it.pattern for it in wanted]
+    return re.fullmatch(text_of(lines), came) is not None
+
+
 def run_line(program, row, room, words):
     """What a command line writes, on both streams, and its status; nothing where it does not end."""
     full = open("/dev/full", "wb") if "full" in row.how else None
@@ -257,9 +268,10 @@ def run(program, row):
         wrong += left_wrong(room, row)
     came_out, came_err = (b"".join(answer[at] for answer in answers) for at in (0, 1))
     streams = [("standard output", came_out, row.stdout), ("standard error", came_err, row.stderr)]
-    for what, came, wanted in [(what, came, text_of(lines)) for what, came, lines in streams]:
-        if came != wanted:
-            wrong.append(f"{what} has {came[:400]!r} and not {wanted[:400]!r}")
+    for what, came, wanted in streams:
+        if not fits(came, wanted):
+            right = text_of([it if isinstance(it, str) else it.pattern for it in wanted])
+            wrong.append(f"{what} has {came[:400]!r} and not {right[:400]!r}")
     statuses, wanted = [answer[2] for answer in answers], [0] * (len(answers) - 1) + [row.status]
     if statuses != wanted:
         wrong.append(f"the status is {statuses} and not {wanted}")

@@ -107,8 +107,10 @@ def states_of(tool: Path, folder: Path) -> List[Dict[str, Any]]:
 
 def page(tool: Path, folder: Path) -> str:
     """The page's text. The same program and files give the same text."""
+    version = subprocess.check_output([str(tool), "--version"], text=True, stdin=subprocess.DEVNULL).strip()
     data = {
-        "version": subprocess.check_output([str(tool), "--version"], text=True, stdin=subprocess.DEVNULL).strip(),
+        # Without the sum of the program's texts, which every change of them changes.
+        "version": re.sub(r", texts [0-9a-f]+", "", version),
         "city": rings_of(folder / "city.shp", 10)[0],
         "zones": rings_of(folder / "zones.shp", 10),
         "states": states_of(tool, folder),

@@ -3,7 +3,7 @@ from __future__ import annotations
 
 import hashlib
 import json
-import shutil
+from pathlib import Path
 
 import geopandas as gpd
 import pandas as pd
@@ -186,15 +186,45 @@ def test_a_report_asks_for_the_overlay_first(faults, tmp_path, monkeypatch):
     assert asked[:3] == (["overlay", "check", "check"] if faults else ["overlay", "area"])
 
 
-def test_a_program_that_was_built_without_proofs_says_so(layer, tmp_path, monkeypatch):
-    program = tmp_path / "parcel_tool"
-    shutil.copy(find_tool(), program)
+TEXTS = "0123456789abcdef" * 4
+
+
+@pytest.mark.parametrize(
+    "said, proved, texts",
+    [
+        (f"a kit, proved, texts {TEXTS}", True, TEXTS),
+        (f"a kit, unproved, texts {TEXTS}", False, TEXTS),
+        ("a kit", None, None),
+        (f"a kit, proved, texts {TEXTS[1:]}", None, None),
+        (f"a kit, unproved, proved, texts {TEXTS}", None, None),
+    ],
+)
+def test_a_verdict_says_whether_its_program_is_proved_and_of_which_texts(
+    said, proved, texts, layer, tmp_path, monkeypatch
+):
+    """Basis, certificate and `--json` have what the program says of itself, and no more."""
+    program = tmp_path / "program"
+    program.write_text(
+        f'#!/bin/sh\n[ "$1" = --version ] && exec echo "parcel_tool 2.0.0 ({said})"\nexec "{find_tool()}" "$@"\n'
+    )
+    program.chmod(0o755)
     monkeypatch.setenv("GANDOVEL_TOOL", str(program))
-    prepared = gv.prepare(layer)
-    assert gv.report(prepared).basis.program["built_over_proofs"] is None
     digest = hashlib.sha256(program.read_bytes()).hexdigest()
-    program.with_name("parcel_tool.unproved").write_text(f"{digest}\n{'0' * 64}\n")
-    basis = gv.report(prepared).basis
-    assert basis.program["built_over_proofs"] is False and f"built without proofs, SHA-256 {digest}" in basis.text()
-    program.with_name("parcel_tool.unproved").write_text("of another program\n")
-    assert gv.report(prepared).basis.program["built_over_proofs"] is None
+    ended = command("check", "parcels.gpkg", "--certificate", "verdict.json", "--json", cwd=layer.parent)
+    assert ended.returncode == 1, ended.stderr
+    wanted = {"version": f"parcel_tool 2.0.0 ({said})", "sha256": digest, "built_over_proofs": proved, "texts": texts}
+    printed, signed = json.loads(ended.stdout), json.loads((layer.parent / "verdict.json").read_text())
+    assert signed["basis"]["program"] == printed["basis"]["program"] == wanted
+    assert printed["program"] == wanted["version"]
+    text = gv.report(gv.prepare(layer)).basis.text()
+    assert f"By parcel_tool 2.0.0 ({said})" in text and ("built without proofs" in text) == (proved is False)
+    ended = command("check", "--verify", "verdict.json", cwd=layer.parent)
+    assert ended.returncode == 0, ended.stderr
+
+
+def test_the_program_that_is_tried_says_whether_it_is_proved(layer):
+    """A note of `make build` beside it and its version line agree."""
+    program = gv.report(gv.prepare(layer)).basis.program
+    note = Path(f"{find_tool()}.unproved")
+    noted = note.is_file() and note.read_text().split()[:1] == [program["sha256"]]
+    assert program["built_over_proofs"] is not noted and len(program["texts"]) == 64

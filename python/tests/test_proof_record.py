@@ -38,6 +38,7 @@ def test_log_says_what_was_proved_and_what_was_kept() -> None:
     assert record.verdicts(LOG) == {"city_layers": "proved", "ring_core": "kept"}
     assert record.of_the_program(LOG) == ["logic=proved functions=124 cpu=x86-64-v2 threads=abort,pthread_create"]
     record.linking.OBJECT = ROOT / "there/is/none"
+    record.tells_its_texts = lambda: True
     faults = list(record.faults_of({"city_layers": "proved", "ring_core": "kept", "shp_files": "unknown"}, []))
     assert faults == ["shp_files was neither proved nor kept"]
 

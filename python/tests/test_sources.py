@@ -336,7 +336,7 @@ def test_a_program_that_says_nothing_is_not_believed(tmp_path, monkeypatch):
     with pytest.raises(gv.Refused, match="T2 /bin/true is no parcel_tool"):
         gv.check(two())
     silent = tmp_path / "silent"
-    for version, said in (("1.0.0", "gave no verdict"), ("2.0.0", "version 1 is wanted")):
+    for version, said in (("2.0.0", "gave no verdict"), ("1.1.0", "version 2 is wanted")):
         silent.write_text(f'#!/bin/sh\n[ "$1" = --version ] && echo "parcel_tool {version} (x)"\nexit 0\n')
         silent.chmod(0o755)
         monkeypatch.setenv("GANDOVEL_TOOL", str(silent))

@@ -5,6 +5,9 @@ use geo_exact::{Corner, LIMIT};
 use std::test::Fail;
 use tool_arguments::{Points, Request, parse};
 
+/// The version of the program whose command lines are read.
+const VERSION: &str = "7.8.9 (a kit, proved, texts 0a1b)";
+
 /// Command lines, and what each asks for.
 const REQUESTS: [(&str, &str); 16] = [
     (
@@ -104,7 +107,7 @@ const SESSIONS: [(&str, &str); 3] = [
 fn reads_requests(rt: HostRuntime) -> Result<(), Fail> {
     for (line, want) in REQUESTS {
         let words: Vec<&str> = line.split(' ').collect(rt.alloc())?;
-        match parse(rt.alloc(), words.as_slice()) {
+        match parse(rt.alloc(), VERSION, words.as_slice()) {
             Ok(request) => {
                 let told = format!(in rt.alloc(); "{request:?}")?;
                 assert_eq!(rt; told.as_str(), want);
@@ -119,7 +122,7 @@ fn reads_requests(rt: HostRuntime) -> Result<(), Fail> {
 fn reads_sessions(rt: HostRuntime) -> Result<(), Fail> {
     for (line, want) in SESSIONS {
         let words: Vec<&str> = line.split(' ').collect(rt.alloc())?;
-        match parse(rt.alloc(), words.as_slice()) {
+        match parse(rt.alloc(), VERSION, words.as_slice()) {
             Ok(request) => {
                 let told = format!(in rt.alloc(); "{request:?}")?;
                 assert_eq!(rt; told.as_str(), want);
@@ -158,7 +161,7 @@ const REFUSED_SESSIONS: [(&str, ErrorKind, &str); 4] = [
 fn refuses_sessions(rt: HostRuntime) -> Result<(), Fail> {
     for (line, kind, help) in REFUSED_SESSIONS {
         let words: Vec<&str> = line.split(' ').collect(rt.alloc())?;
-        let Err(error) = parse(rt.alloc(), words.as_slice()) else {
+        let Err(error) = parse(rt.alloc(), VERSION, words.as_slice()) else {
             return Err(Fail::new(line));
         };
         assert_eq!(rt; (error.kind(), error.exit_code()), (kind, 2), "{line}");
@@ -174,7 +177,7 @@ fn refuses_sessions(rt: HostRuntime) -> Result<(), Fail> {
 fn reads_points(rt: HostRuntime) -> Result<(), Fail> {
     let line = "parcel_tool locate a.shp --at -5 0010 b.shp --unit mm --at 100000000000 -0";
     let words: Vec<&str> = line.split(' ').collect(rt.alloc())?;
-    match parse(rt.alloc(), words.as_slice()) {
+    match parse(rt.alloc(), VERSION, words.as_slice()) {
         Ok(Request::Locate { inputs, points }) => {
             let paths = (inputs.city, inputs.parcels, inputs.clerks.len());
             assert_eq!(rt; paths, ("a.shp", "b.shp", 0));
@@ -303,7 +306,7 @@ const REFUSED: [(&str, ErrorKind, &str); 21] = [
 fn refuses_command_lines(rt: HostRuntime) -> Result<(), Fail> {
     for (line, kind, help) in REFUSED {
         let words: Vec<&str> = line.split(' ').collect(rt.alloc())?;
-        let Err(error) = parse(rt.alloc(), words.as_slice()) else {
+        let Err(error) = parse(rt.alloc(), VERSION, words.as_slice()) else {
             return Err(Fail::new(line));
         };
         assert_eq!(rt; (error.kind(), error.exit_code()), (kind, 2), "{line}");
@@ -341,11 +344,11 @@ fn shows_help_and_version(rt: HostRuntime) -> Result<(), Fail> {
         ),
         (
             "parcel_tool --version",
-            "parcel_tool 1.1.0 (rattle-kit-13f)",
+            "parcel_tool 7.8.9 (a kit, proved, texts 0a1b)",
         ),
     ] {
         let words: Vec<&str> = line.split(' ').collect(rt.alloc())?;
-        let Err(error) = parse(rt.alloc(), words.as_slice()) else {
+        let Err(error) = parse(rt.alloc(), VERSION, words.as_slice()) else {
             return Err(Fail::new(line));
         };
         assert_eq!(rt; error.exit_code(), 0, "{line}");

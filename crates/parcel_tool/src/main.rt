@@ -18,6 +18,7 @@ mod outputs;
 mod progress;
 mod session_disk;
 mod sizes;
+mod texts;
 mod unitless;
 mod units;
 
@@ -32,6 +33,7 @@ use crate::named::word_of;
 use crate::outputs::{is_folder, write_layer};
 use crate::progress::tell;
 use crate::session_disk::SessionDisk;
+use crate::texts::VERSION;
 use crate::unitless::{why_no_unit, with_unit};
 use crate::units::{Said, first_clear, first_other, length_of, said_beside};
 use area_runs::overlay_areas;
@@ -79,7 +81,7 @@ fn main(rt: HostRuntime) -> ExitCode {
         hints: wants_hints(words.as_slice()) || progress,
         progress,
     };
-    match tool_arguments::parse(rt.alloc(), words.as_slice()) {
+    match tool_arguments::parse(rt.alloc(), VERSION, words.as_slice()) {
         Ok(request) => answer(&rt, &SessionDisk(&rt), &request, told),
         Err(error) if error.kind() == ErrorKind::MissingRequiredArgument => {
             answer_unitless(&rt, &SessionDisk(&rt), words.as_slice(), &error, told)
@@ -107,7 +109,7 @@ fn answer_unitless<
     let Ok(metres) = with_unit(heap, words, word_of(Unit::M)) else {
         return end_by_fault(rt, &ToolFault::NoMemory, told.hints);
     };
-    let Ok(request) = tool_arguments::parse(heap, metres.as_slice()) else {
+    let Ok(request) = tool_arguments::parse(heap, VERSION, metres.as_slice()) else {
         return end_by_refusal(rt, error);
     };
     let Ok(said) = said_beside(rt, heap, &request) else {
@@ -154,7 +156,7 @@ fn answer_in<
     let Ok(all) = with_unit(heap, words, word_of(unit)) else {
         return end_by_fault(rt, &ToolFault::NoMemory, told.hints);
     };
-    match tool_arguments::parse(heap, all.as_slice()) {
+    match tool_arguments::parse(heap, VERSION, all.as_slice()) {
         Ok(request) => answer(rt, disk, &request, told),
         Err(error) => end_by_refusal(rt, &error),
     }

@@ -19,9 +19,13 @@ const OUT_HELP: &str =
     "--out takes a path without its ending, to which .shp and .shx are added, as in new/town";
 
 /// Reads a command line, the program's own name first. A refused one is an error whose text helps; `--help` and
-/// `--version` are answered as errors too, with the status 0.
-pub fn parse<'a, S: AsStr>(alloc: Global, words: &'a [S]) -> Result<Request<'a>, Error> {
-    let mut command = tool_command(alloc)?;
+/// `--version` are answered as errors too, with the status 0. The latter prints the program's name and this version.
+pub fn parse<'a, S: AsStr>(
+    alloc: Global,
+    version: &'a str,
+    words: &'a [S],
+) -> Result<Request<'a>, Error> {
+    let mut command = tool_command(alloc, version)?;
     let matches = command.try_get_matches_from_mut(words)?;
     let (verb, given) = match matches.subcommand() {
         Some(("area", given)) => (Verb::Area, given),
@@ -101,10 +105,10 @@ const STATUSES: &str =
     "Status 0: done. Status 1: refused; one `error:` line on stderr (see `parcel_tool explain`).\n\
      Status 2: the command line was not understood.";
 
-fn tool_command<'a>(alloc: Global) -> Result<Command<'a>, AllocError> {
+fn tool_command<'a>(alloc: Global, version: &'a str) -> Result<Command<'a>, AllocError> {
     Command::new(alloc, "parcel_tool")
         .bin_name("parcel_tool")?
-        .version("1.1.0 (rattle-kit-13f)")
+        .version(version)
         .about("Exact answers about parcel layers in shapefiles, in whole millimetres")
         .after_help(STATUSES)
         .subcommand_required(true)

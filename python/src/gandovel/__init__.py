@@ -104,7 +104,7 @@ __all__ = [
     "read_journal",
     "report",
 ]
-__version__ = "1.1.0"
+__version__ = "2.0.0"
 
 _NAMES = {
     "faults.mend": "Mended mend",

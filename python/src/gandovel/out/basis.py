@@ -3,6 +3,7 @@ from __future__ import annotations
 
 import datetime
 import hashlib
+import re
 from dataclasses import asdict, dataclass
 from functools import lru_cache
 from pathlib import Path
@@ -41,8 +42,8 @@ class Basis:
     `curves`: of each layer with arcs how many there are, as how many chords they were read, and how far these are off.
     `touch_mm`: how far off a border a corner touched it at most. `touched`, `moved`: how many corners, the farthest
     (mm), the area that touching closed (m2). `city`: where its outline is from. `program` and `package`: what judged,
-    with versions; `built_over_proofs` is False where `make build` made the program, else None: its line does not
-    say it. `time`: when, in UTC.
+    with versions; `built_over_proofs` and `texts`, the SHA-256 of the texts that the program was built of, are what its
+    version line says, None where that says neither. `time`: when, in UTC.
     """
 
     sources: List[Dict[str, Any]]
@@ -177,18 +178,19 @@ def _millimetres(distance: float) -> str:
     return f"{text} mm"
 
 
+_BUILT = re.compile(r"parcel_tool \S+ \([^,()]+, (proved|unproved), texts ([0-9a-f]{64})\)")
+"""The version line of a program that says how and of what it was built."""
+
+
 def _program() -> Dict[str, Any]:
     path, line = Path(find_tool()), program_version()
-    digest = _digest(str(path), path.stat().st_mtime_ns)
-    return {"version": line, "sha256": digest, "built_over_proofs": False if _is_unproved(path, digest) else None}
-
-
-def _is_unproved(path: Path, digest: str) -> bool:
-    """Whether a note beside the program says that it was built without proofs, as `make build` leaves it."""
-    try:
-        return path.with_name(f"{path.name}.unproved").read_text().split()[:1] == [digest]
-    except (OSError, UnicodeDecodeError):
-        return False
+    built = _BUILT.fullmatch(line)
+    return {
+        "version": line,
+        "sha256": _digest(str(path), path.stat().st_mtime_ns),
+        "built_over_proofs": None if built is None else built[1] == "proved",
+        "texts": None if built is None else built[2],
+    }
 
 
 @lru_cache(maxsize=8)

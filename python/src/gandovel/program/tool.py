@@ -45,7 +45,7 @@ def find_tool() -> str:
 _PAIR = re.compile(r"^pair (\d+) (\d+)$", re.MULTILINE)
 _AREA = re.compile(r"^area (\d+) (\d+) (\d+)$", re.MULTILINE)
 _VERSION = re.compile(r"parcel_tool (\d+)\.(\d+)\.(\d+)\b.*")
-WANTED = 1
+WANTED = 2
 """The first number of the versions that fit."""
 
 

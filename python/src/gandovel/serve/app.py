@@ -42,7 +42,7 @@ def bare_application(title: str, description: str) -> FastAPI:
     """An application without routes, that answers what is refused."""
     app = FastAPI(
         title=title,
-        version="1.1.0",
+        version="2.0.0",
         description=description,
         openapi_url=None,
         docs_url=None,
