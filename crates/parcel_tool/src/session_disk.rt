@@ -14,7 +14,7 @@ use tool_arguments::is_refused_base;
 #[derive(Clone, Copy)]
 pub(crate) struct SessionDisk<'a, R>(pub(crate) &'a R);
 
-impl<'a, R: Files> Exports for SessionDisk<'a, R> {
+impl<'a, R: Files<File = File> + Clock> Exports for SessionDisk<'a, R> {
     fn obstacle<A: Allocator + Copy>(
         &self,
         alloc: A,
@@ -43,6 +43,11 @@ impl<'a, R: Files> Exports for SessionDisk<'a, R> {
         main: &[u8],
         index: &[u8],
     ) -> Result<(), ToolFault<'static>> {
+        // A write beyond it would end the session.
+        let longest = self.longest_file();
+        if main.len().max(index.len()) as u64 > longest {
+            return Err(ToolFault::Output);
+        }
         replace_layer(self.0, alloc, base, main, index)
     }
 }
@@ -65,12 +70,16 @@ impl<'a, R: Files<File = File> + Clock> Pipes for SessionDisk<'a, R> {
     }
 }
 
-impl<'a, R: Files + Clock> Machine for SessionDisk<'a, R> {
+impl<'a, R: Files<File = File> + Clock> Machine for SessionDisk<'a, R> {
     fn node(&self, path: &str) -> io::Result<(u64, u64)> {
         Disk(self.0).node(path)
     }
 
     fn seconds(&self) -> io::Result<i64> {
         Disk(self.0).seconds()
+    }
+
+    fn longest_file(&self) -> u64 {
+        Disk(self.0).longest_file()
     }
 }

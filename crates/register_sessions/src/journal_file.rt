@@ -2,6 +2,7 @@
 
 ghost use Rattle.std.specs.Prelude.{◌≡◌};
 
+use crate::size_limit::longest_file;
 use city_layers::Disk;
 use journal_writers::{FileFailed, FileId, JournalFile, Synchroniser, Written};
 use session_rooms::Clocked;
@@ -11,7 +12,7 @@ use std::io::{ErrorKind, Write};
 use std::os::unix::fs::MetadataExt;
 use std::rt::{Clock, Files};
 
-/// What a machine says of its files' paths and of the time: [`Disk`] is the machine's.
+/// What a machine says of its files and of the time: [`Disk`] is the machine's.
 pub trait Machine {
     ghost use Rattle.std.specs.Prelude.{⊤, ℕ, List, Option};
     ghost use Rattle.std.specs.Result.{result_ok};
@@ -26,9 +27,12 @@ pub trait Machine {
 
     /// The time, in whole seconds since 1970, UTC.
     fn seconds(&self) -> io::Result<i64>;
+
+    /// How many bytes a file may have that this process writes. A write beyond it would end the process.
+    fn longest_file(&self) -> u64;
 }
 
-impl<'a, R: Files + Clock> Machine for Disk<'a, R> {
+impl<'a, R: Files<File = File> + Clock> Machine for Disk<'a, R> {
     fn node(&self, path: &str) -> io::Result<(u64, u64)> {
         let metadata = self.0.metadata(path)?;
         Ok((metadata.dev(), metadata.ino()))
@@ -44,6 +48,10 @@ impl<'a, R: Files + Clock> Machine for Disk<'a, R> {
             Err(_) => Err(io::Error::from(ErrorKind::InvalidData)),
         }
     }
+
+    fn longest_file(&self) -> u64 {
+        longest_file(self.0)
+    }
 }
 
 /// A journal's file on the disk, as it is written.
@@ -53,6 +61,8 @@ pub(crate) struct DiskFile {
     id: FileId,
     /// As the last write left it.
     left: Traces,
+    /// How many bytes it may have.
+    most: u64,
 }
 
 /// What shows that somebody else has written to a file: its length, and when it was last written.
@@ -64,13 +74,14 @@ struct Traces {
 }
 
 impl DiskFile {
-    /// An empty file that is opened to append, and held.
-    pub(crate) fn new(file: File) -> io::Result<DiskFile> {
+    /// An empty file that is opened to append, and held, and that may have so many bytes.
+    pub(crate) fn new(file: File, most: u64) -> io::Result<DiskFile> {
         let metadata = file.metadata()?;
         Ok(DiskFile {
             file,
             id: id_of(&metadata),
             left: traces_of(&metadata),
+            most,
         })
     }
 
@@ -79,12 +90,15 @@ impl DiskFile {
         &self.file
     }
 
-    /// Adds bytes at the end of the file, unless somebody else has written to it.
+    /// Adds bytes at the end of the file, unless somebody else has written to it, or it may not become so long.
     fn add(&mut self, more: &[u8]) -> io::Result<()>
         ensures { self.new.id ≡ self.old.id }
     {
         if traces_of(&self.file.metadata()?) != self.left {
             return Err(io::Error::from(ErrorKind::InvalidData));
+        }
+        if self.left.length.saturating_add(more.len() as u64) > self.most {
+            return Err(io::Error::from(ErrorKind::FileTooLarge));
         }
         self.file.write_all(more)?;
         self.left = traces_of(&self.file.metadata()?);

@@ -15,6 +15,7 @@ mod pipes;
 mod post;
 mod reports;
 mod serving;
+mod size_limit;
 mod start;
 mod start_fault;
 mod threads;

@@ -310,7 +310,7 @@ fn fill_next<'a, 'h, P: Machine, H: Allocator>(
     requires { IsMarked (Bor H) found.now.text.items replayed.now layer.now }
 {
     let path = found.path;
-    let Ok(next) = DiskFile::new(next) else {
+    let Ok(next) = DiskFile::new(next, machine.longest_file()) else {
         return Err(StartFault::JournalUnreadable(path));
     };
     let Ok(synchroniser) = DiskSynchroniser::new(machine, path, &next) else {
