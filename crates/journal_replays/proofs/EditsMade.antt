@@ -1,13 +1,13 @@
 -- Edits that are made one after the other.
 use Rattle.std.proofs.Common.{◌≡◌, ◌⊎◌, inl, inr, refl, sym, ap, ◌∙◌, subst, ℕ, suc, List, [], ◌∷◌, ◌++◌, map, take, drop}
-use Rattle.std.proofs.Common.{append_assoc, append-nil}
+use Rattle.std.proofs.Common.{append_assoc, append-nil, Result, Ok, Err}
 use Rattle.std.proofs.lemmas.List.{map-append}
 use Rattle.journal_records.specs.declared.record.Record.{Record}
 use Rattle.fabric_core.specs.Journal.{JournalEntry, Book}
 use Rattle.fabric_core.specs.declared.refusal.Refusal.{Refusal}
 use Rattle.fabric_core.specs.declared.refusal.Refusal.TheVariants.{NoMemory}
-use Rattle.fabric_core.specs.Refusals.{IsRefusal}
-use Rattle.journal_replays.specs.Replays.{AreMade, IsStoppedAt}
+use Rattle.fabric_core.specs.Refusals.{IsRefusal, NeedsNoMemory}
+use Rattle.journal_replays.specs.Replays.{AreMade, IsStoppedAt, IsShortIn}
 
 module _ {A : Type 0} where
   -- none
@@ -57,3 +57,24 @@ stopped records i said before mid after refusal is made same (inl h) =
       is_refusal = h;
     }))
 stopped records i said before mid after refusal is made same (inr h) = inr h
+
+-- the error of an answer
+abbrev error_or : {T E : Type 0} → E → Result T E → E
+error_or default (Ok value) = default
+error_or default (Err error) = error
+
+-- and what stops them where memory is refused: nothing is due then that is told whatever memory there is
+pub short : {A T : Type 0} (records : List (Record A)) (i : ℕ) (said : Record A) (before mid after : Book A) (refusal : Refusal)
+    → records ≡ take i records ++ said ∷ drop (suc i) records → AreMade (take i records) before mid → after ≡ mid
+    → ((due : Refusal) → IsRefusal mid.now mid.journal said.edit due → NeedsNoMemory due
+    → ◌≡◌ {A = Result T Refusal} (Err refusal) (Err due))
+    → refusal ≡ NoMemory → IsShortIn records before after
+short records i said before mid after refusal is made same exact none =
+    subst (λ book. IsShortIn records before book) (sym same) (record {
+      made = take i records;
+      short = said;
+      rest = drop (suc i) records;
+      are_all = is;
+      are_made = made;
+      is_not_due = λ due h alone. subst NeedsNoMemory (sym (ap (error_or due) (exact due h alone)) ∙ none) alone;
+    })

@@ -1,5 +1,5 @@
 -- The edits of a journal, made again (this product's own).
-use Rattle.std.specs.Prelude.{◌≡◌, ⊤, ℕ, Bool, List, ◌∷◌, ◌++◌, map, length}
+use Rattle.std.specs.Prelude.{◌≡◌, ◌⊎◌, ⊤, ℕ, Bool, List, ◌∷◌, ◌++◌, map, length}
 use Rattle.std.specs.List.{flat_map}
 use Rattle.geo_exact.specs.declared.corner.Corner.{Corner}
 use Rattle.geo_exact.specs.Layers.{NumberedRing}
@@ -9,7 +9,7 @@ use Rattle.journal_replays.specs.declared.journal_edits.ReplayFault.{ReplayFault
 use Rattle.journal_replays.specs.declared.journal_edits.ReplayFault.TheVariants.{Journal, Refused}
 use Rattle.fabric_core.specs.declared.refusal.Refusal.{Refusal}
 use Rattle.fabric_core.specs.Journal.{JournalEntry, Book}
-use Rattle.fabric_core.specs.Refusals.{IsRefusal}
+use Rattle.fabric_core.specs.Refusals.{IsRefusal, NeedsNoMemory}
 
 -- a line for each of these rings
 abbrev pub outlines : List NumberedRing → List ℕ
@@ -60,6 +60,29 @@ pub record IsRefusedAt {A : Type 0} (layer text : List ℕ) (before after : Book
   pub lacks : Bool
   pub is_journal : IsJournal layer text records seal torn lacks
   pub is_stopped : IsStoppedAt records before after number refusal
+
+-- of records, those before some one are made, and lead to a book; its edit finds no memory then, and is not refused
+-- for a reason that is told whatever memory there is
+pub record IsShortIn {A : Type 0} (records : List (Record A)) (before after : Book A) : Type 0 where
+  pub made : List (Record A)
+  pub short : Record A
+  pub rest : List (Record A)
+  pub are_all : records ≡ made ++ short ∷ rest
+  pub are_made : AreMade made before after
+  pub is_not_due : (due : Refusal) → IsRefusal after.now after.journal short.edit due → ¬ NeedsNoMemory due
+
+-- the text is a journal of this layer, of whose records those before some one are made, and whose edit finds no memory
+pub record IsShortAt {A : Type 0} (layer text : List ℕ) (before after : Book A) : Type 0 where
+  pub records : List (Record A)
+  pub seal : List ℕ
+  pub torn : List ℕ
+  pub lacks : Bool
+  pub is_journal : IsJournal layer text records seal torn lacks
+  pub is_short : IsShortIn records before after
+
+-- memory is refused while the text is read, and nothing is made yet; or for an edit of its records
+abbrev pub IsShortOf : {A : Type 0} → List ℕ → List ℕ → Book A → Book A → Type 0
+IsShortOf layer text before after = (after ≡ before) ⊎ IsShortAt layer text before after
 
 -- a text is no journal of this layer for what its first line says
 abbrev pub IsReplayFault : List ℕ → List ℕ → ReplayFault → Type 0

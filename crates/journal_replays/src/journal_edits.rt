@@ -1,9 +1,12 @@
 //! The edits of a journal, made again.
 
-ghost use Rattle.std.specs.Prelude.{◌≡◌, ◌⊎◌, ℕ, IfOk, IfErr, IsErrOf, OnOk};
+ghost use Rattle.std.specs.Prelude.{◌≡◌, ◌≢◌, ◌⊎◌, ℕ, IfOk, IfErr, IsErrOf, OnOk};
+ghost use Rattle.journal_records.specs.declared.read.JournalFault.{JournalFault as JournalFaultValue};
+ghost use Rattle.journal_records.specs.declared.read.JournalFault.TheVariants.{NoMemory as NoRoomToRead};
 ghost use Rattle.fabric_core.specs.declared.refusal.Refusal.{Refusal as RefusalValue};
 ghost use Rattle.fabric_core.specs.declared.refusal.Refusal.TheVariants.{NoMemory as NoRoom};
 ghost use Rattle.journal_replays.specs.Replays.{AreMade, IsReplayed, IsReplayFault, IsStoppedAt, IsRefusedAt};
+ghost use Rattle.journal_replays.specs.Replays.{IsShortIn, IsShortOf};
 
 use fabric_core::{Fabric, Refusal};
 use journal_records::{JournalFault, Journaled, Record, Seal, read_journal};
@@ -36,7 +39,7 @@ pub struct Replayed {
 ///
 /// # Errors
 ///
-/// [`ReplayFault::Journal`] for a text that is no journal of this layer, or where memory is refused;
+/// [`ReplayFault::Journal`] for a text that is no journal of this layer, which changes nothing, or where memory is refused;
 /// [`ReplayFault::Refused`] with the first edit that is refused: the edits before have been made then.
 pub fn replay<'h, H: Allocator>(
     heap: &'h H,
@@ -50,6 +53,12 @@ pub fn replay<'h, H: Allocator>(
     ensures fault { IfErr result (IsReplayFault layer.now.digits text.now) }
     ensures refused { (number : ℕ) (refusal : RefusalValue) → IsErrOf result (ReplayFault.Refused number refusal)
         → IsRefusedAt layer.now.digits text.now fabric.old fabric.new number refusal }
+    // A text that is no journal of this layer changes nothing.
+    ensures unchanged { (fault : JournalFaultValue) → IsErrOf result (ReplayFault.Journal fault)
+        → fault ≢ NoRoomToRead → fabric.new ≡ fabric.old }
+    // Memory is refused before any edit is made, or for one that is not refused whatever memory there is.
+    ensures memory { IsErrOf result (ReplayFault.Journal NoRoomToRead)
+        → IsShortOf layer.now.digits text.now fabric.old fabric.new }
 {
     let Journaled {
         records,
@@ -81,6 +90,8 @@ fn make_all<'h, H: Allocator>(
     ensures ok { OnOk result (AreMade records.now fabric.old fabric.new) }
     ensures refused { IfErr result (λ refused.
         IsStoppedAt records.now fabric.old fabric.new refused.0 refused.1 ⊎ (refused.1 ≡ NoRoom)) }
+    ensures memory { IfErr result (λ refused.
+        refused.1 ≡ NoRoom → IsShortIn records.now fabric.old fabric.new) }
 {
     for said in records {
         if let Err(refusal) = fabric.edit(said.stamp.clerk, &said.edit) {
