@@ -29,6 +29,9 @@ pub(crate) const LOCK: &str = ".lock";
 /// How many bytes the name of an open file has at most: `/proc/self/fd/` and its number.
 const NAME_BYTES: usize = 32;
 
+/// The name under which the system shows an open file of this process.
+type Name = ArrayString<NAME_BYTES>;
+
 /// What of a pipe's mode lets every user read or write it.
 const EVERY_USER: u32 = 0o006;
 
@@ -105,23 +108,6 @@ pub(crate) struct Paths<A: Allocator> {
     pub(crate) serves: AtomicBool,
 }
 
-/// By what a pipe is opened.
-#[derive(Drop)]
-enum Name<'p> {
-    /// As the system shows an end of it that is open.
-    Own(ArrayString<NAME_BYTES>),
-    Path(&'p str),
-}
-
-impl<'p> Name<'p> {
-    fn as_str(&self) -> &str {
-        match self {
-            Name::Own(name) => name.as_str(),
-            Name::Path(path) => path,
-        }
-    }
-}
-
 impl<A: Allocator> Paths<A> {
     /// Opens both pipes, that of the lines and that of the answers: waits for a client.
     ///
@@ -134,32 +120,37 @@ impl<A: Allocator> Paths<A> {
         door: &Door,
         pipes: &P,
     ) -> io::Result<(File, File)> {
-        let lines = pipes.open_to_read(self.name_of(Some(&self.asked), &self.lines).as_str())?;
-        let answers = pipes.open_to_write(self.begin_answers(rt, door, pipes)?.as_str())?;
+        let own = self.shown(&self.asked);
+        let lines = pipes.open_to_read(either(&own, self.lines.as_str()))?;
+        let own = self.begin_answers(rt, door, pipes)?;
+        let answers = pipes.open_to_write(either(&own, self.answers.as_str()))?;
         Ok((lines, answers))
     }
 
-    /// Takes an own end of the pipe of the answers, and says by what the pipe is opened. Where its path is gone there
-    /// is none, and the pipe is not opened either.
+    /// Takes an own end of the pipe of the answers, and says its name, where it has one. Where the pipe's path is gone
+    /// there is no end, and the pipe is not opened either.
     fn begin_answers<P: Pipes, R: Wait>(
         &self,
         rt: &R,
         door: &Door,
         pipes: &P,
-    ) -> io::Result<Name<'_>> {
+    ) -> io::Result<Option<Name>> {
         let mut answered = self.answered.lock(rt);
         // Whoever closes the session says so before it looks for the end: so it finds each that is taken.
         if door.is_closing() {
             return Err(io::Error::from(ErrorKind::NotConnected));
         }
-        *answered = self.end_of_answers(pipes).ok();
-        Ok(self.name_of(answered.as_ref(), &self.answers))
+        let end = self.end_of_answers(pipes).ok();
+        let own = self.shown_of(&end);
+        *answered = end;
+        Ok(own)
     }
 
     /// An end of the pipe of the answers to write, without waiting for who reads.
     fn end_of_answers<P: Pipes>(&self, pipes: &P) -> io::Result<File> {
         let both = pipes.open_for_both(self.answers.as_str())?;
-        pipes.open_to_write(self.name_of(Some(&both), &self.answers).as_str())
+        let own = self.shown(&both);
+        pipes.open_to_write(either(&own, self.answers.as_str()))
     }
 
     /// Lets the own end of the pipe of the answers go, once a client was served.
@@ -169,9 +160,9 @@ impl<A: Allocator> Paths<A> {
 
     /// Opens the pipe of the lines for both, which wakes a desk that waits for a client, and then to write.
     pub(crate) fn open_asked<P: Pipes>(&self, pipes: &P) -> io::Result<(File, File)> {
-        let name = self.name_of(Some(&self.asked), &self.lines);
-        let both = pipes.open_for_both(name.as_str())?;
-        let end = pipes.open_to_write(name.as_str())?;
+        let own = self.shown(&self.asked);
+        let both = pipes.open_for_both(either(&own, self.lines.as_str()))?;
+        let end = pipes.open_to_write(either(&own, self.lines.as_str()))?;
         Ok((both, end))
     }
 
@@ -181,44 +172,67 @@ impl<A: Allocator> Paths<A> {
         rt: &R,
         pipes: &P,
     ) -> io::Result<(File, File)> {
+        // Until both are open nobody lets the end go, so that its name stays its own.
         let answered = self.answered.lock(rt);
-        let name = self.name_of(answered.as_ref(), &self.answers);
-        let both = pipes.open_for_both(name.as_str())?;
-        let end = pipes.open_to_read(name.as_str())?;
+        let own = self.shown_of(&*answered);
+        let both = pipes.open_for_both(either(&own, self.answers.as_str()))?;
+        let end = pipes.open_to_read(either(&own, self.answers.as_str()))?;
         Ok((both, end))
     }
 
-    /// By what a pipe at a path is opened of which this end is open, if there is one.
-    fn name_of<'p>(&self, end: Option<&File>, path: &'p String<A>) -> Name<'p> {
+    /// The name of an open end of a pipe, where the system shows it.
+    fn shown(&self, end: &File) -> Option<Name> {
+        if self.shows_files {
+            Some(own_name(end))
+        } else {
+            None
+        }
+    }
+
+    /// The same, where there is an end.
+    fn shown_of(&self, end: &Option<File>) -> Option<Name> {
         match end {
-            Some(end) if self.shows_files => Name::Own(own_name(end)),
-            _ => Name::Path(path.as_str()),
+            Some(end) => self.shown(end),
+            None => None,
         }
     }
 }
 
+/// By what a pipe is opened: by the name of an end that is open, and without one by its path.
+fn either<'p>(own: &'p Option<Name>, path: &'p str) -> &'p str {
+    match own {
+        Some(name) => name.as_str(),
+        None => path,
+    }
+}
+
 /// As the system shows an open file of this process.
-fn own_name(file: &File) -> ArrayString<NAME_BYTES> {
+fn own_name(file: &File) -> Name {
     let mut name = ArrayString::new();
     // There is room for any number.
     let _ = write!(name, "/proc/self/fd/{}", file.as_raw_fd());
     name
 }
 
-/// The pipes of desks with these names: NAME.in and NAME.out of each. NAME.in has an end from then on; NAME.lock is
-/// held.
+/// The pipes of a desk that is not served yet. None is open: a client that comes waits until all is ready.
+#[derive(Drop)]
+pub(crate) struct Found<A: Allocator> {
+    lines: String<A>,
+    answers: String<A>,
+    lock: File,
+}
+
+/// The pipes of desks with these names: NAME.in and NAME.out of each. NAME.lock is held.
 ///
 /// # Errors
 ///
 /// [`StartFault::NoPipe`] (S4) with the first path at which is no named pipe, or one of those before, or one that every
-/// user can read or write, or one of lines that can't be opened, or a lock that another session holds;
-/// [`StartFault::Run`] where an allocation fails.
-pub(crate) fn find_pipes<'a, F: Files<File = File>, P: Pipes, A: Allocator + Copy>(
+/// user can read or write, or a lock that another session holds; [`StartFault::Run`] where an allocation fails.
+pub(crate) fn find_pipes<'a, F: Files<File = File>, A: Allocator + Copy>(
     files: &F,
-    pipes: &P,
     alloc: A,
     names: &[&'a str],
-) -> Result<Vec<Paths<A>, A>, StartFault<'a, A>> {
+) -> Result<Vec<Found<A>, A>, StartFault<'a, A>> {
     let mut seen = Vec::new(alloc);
     let mut all = Vec::new(alloc);
     for name in names {
@@ -234,6 +248,34 @@ pub(crate) fn find_pipes<'a, F: Files<File = File>, P: Pipes, A: Allocator + Cop
         let Ok(lock) = hold(files, lock.as_str()) else {
             return Err(StartFault::NoPipe(*name, LOCK));
         };
+        all.push(Found {
+            lines,
+            answers,
+            lock,
+        })?;
+    }
+    Ok(all)
+}
+
+/// Takes an end of the lines of each desk, once all else is ready: from then on a client is no longer kept waiting.
+///
+/// # Errors
+///
+/// [`StartFault::NoPipe`] (S4) with the first path of lines that can't be opened; [`StartFault::Run`] where an
+/// allocation fails.
+pub(crate) fn take_pipes<'a, P: Pipes, A: Allocator + Copy>(
+    pipes: &P,
+    alloc: A,
+    names: &[&'a str],
+    found: Vec<Found<A>, A>,
+) -> Result<Vec<Paths<A>, A>, StartFault<'a, A>> {
+    let mut all = Vec::new(alloc);
+    for (name, desk) in names.iter().zip(found) {
+        let Found {
+            lines,
+            answers,
+            lock,
+        } = desk;
         let Ok((asked, shows_files)) = end_of_lines(pipes, lines.as_str()) else {
             return Err(StartFault::NoPipe(*name, LINES));
         };
