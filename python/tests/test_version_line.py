@@ -61,7 +61,8 @@ def test_a_text_that_changed_without_the_sum_is_told_with_what_helps(
 
     assert status() == (
         1,
-        f"{CONSTANT} has not the version 2.0.0 of CHANGELOG.md, and the sum of the texts\nrun scripts/version --write\n",
+        f"{CONSTANT} has not the version 2.0.0 of CHANGELOG.md, and the sum of the texts\n"
+        "run scripts/version --write\n",
     )
     assert status("--write")[0] == 0 and status() == (0, "")
     assert f"proved, texts {version.sum_of_program(few)})" in (few / CONSTANT).read_text()
