@@ -39,8 +39,8 @@ pub struct Replayed {
 ///
 /// # Errors
 ///
-/// [`ReplayFault::Journal`] for a text that is no journal of this layer, which changes nothing, or where memory is refused;
-/// [`ReplayFault::Refused`] with the first edit that is refused: the edits before have been made then.
+/// [`ReplayFault::Journal`] for a text that is no journal of this layer, which changes nothing, or where memory is
+/// refused; [`ReplayFault::Refused`] with the first edit that is refused: the edits before have been made then.
 pub fn replay<'h, H: Allocator>(
     heap: &'h H,
     fabric: &mut Fabric<'h, H>,
