@@ -7,6 +7,7 @@ import random
 import subprocess
 import threading
 from collections import Counter
+from functools import partial
 from pathlib import Path
 from typing import Dict, List, Set
 
@@ -105,10 +106,19 @@ def files_of(town: Town) -> Dict[str, bytes]:
     return {path.name: path.read_bytes() for path in town.journal.parent.glob(f"{town.journal.name}*")}
 
 
-def started(town: Town) -> int:
-    """How many entries a start has, in the program's own words."""
+def started(town: Town, left: Dict[str, bytes], found: "Counter[str]") -> int:
+    """How many entries a start has, in the program's own words.
+
+    A start that was cut before its new file was on the disk can leave that one begin with zeros. The next start does
+    not know it for its own, refuses by S1, and changes nothing; it is the operator who takes it away.
+    """
     words = ["session", town.city, town.parcels, "--unit", "mm", "--journal", town.journal]
-    told = subprocess.run([find_tool(), *map(str, words)], stdin=subprocess.DEVNULL, capture_output=True)
+    run = partial(subprocess.run, [find_tool(), *map(str, words)], stdin=subprocess.DEVNULL, capture_output=True)
+    told, other = run(), f"{town.journal.name}.gandovel-next"
+    if told.returncode == 1 and b"\0" in left.get(other, b"")[:24]:
+        assert told.stderr.decode() == f"error: {town.journal}: S1\n" and files_of(town) == left
+        town.journal.with_name(other).unlink()
+        told, found["held up"] = run(), found["held up"] + 1
     assert told.returncode == 0 and told.stdout.startswith(b"ready "), (told.stdout, told.stderr)
     return int(told.stdout.split()[1])
 
@@ -144,7 +154,7 @@ def cut(town: Town, disk: Disk, draw: random.Random, sent: Set[str], found: "Cou
     """One cut at this moment: what it left is started anew, and stays in the town's folder."""
     left, written = disk.left(draw), disk.names.get(town.journal.name)
     begun(town, left)
-    replayed = started(town)
+    replayed = started(town, left, found)
     assert replayed >= disk.answered
     now, journal = files_of(town), town.journal.name
     assert written is None or bytes(written.text).startswith(now[journal]) or not written.text
