@@ -7,6 +7,7 @@ from typing import Any, Deque, List, Optional, Sequence, Tuple
 
 from ..program.edits import Edit, Insert, Merge, Move, Split, Straighten, line_of
 from .answers import Accepted, Outline, Place, accepted_of, count_of, outline_of, place_of, test_error
+from .checkpoint import Checkpoint
 from .pipes import Wire, limit_of
 
 Corner = Tuple[int, int]
@@ -16,7 +17,7 @@ Corners = Sequence[Corner]
 
 
 AHEAD = 1000
-"""How many points are asked for before the first answer is waited for: some 30 kB of lines."""
+"""How many lines are sent before the first answer is waited for."""
 
 
 class Calls:
@@ -77,15 +78,21 @@ class Calls:
 
     def locate_all(self, points: Sequence[Corner]) -> List[Place]:
         """Where points (mm) lie, in order: many are asked for before the first answer is waited for."""
-        found: List[Place] = []
-        for at in range(0, len(points), AHEAD):
-            part = [(_whole(x), _whole(y)) for x, y in points[at : at + AHEAD]]
-            for x, y in part:
-                self._put(f"locate {x} {y}", False)
-            for place, (x, y) in enumerate(part, 1):
+        whole = [(_whole(x), _whole(y)) for x, y in points]
+        answers = self.ask_all([f"locate {x} {y}" for x, y in whole])
+        return [place_of(answer, x, y) for answer, (x, y) in zip(answers, whole)]
+
+    def ask_all(self, lines: Sequence[str]) -> List[str]:
+        """As `ask`, of many lines: the answers in order, of which the first may come before the last line is sent."""
+        found: List[str] = []
+        for at in range(0, len(lines), AHEAD):
+            part = lines[at : at + AHEAD]
+            for line in part:
+                self._put(line, False)
+            for place in range(1, len(part) + 1):
                 answer = self._answered(len(part) - place)[0]
                 test_error(answer)
-                found.append(place_of(answer, x, y))
+                found.append(answer)
         return found
 
     def parcel(self, parcel: int) -> Optional[Outline]:
@@ -137,6 +144,22 @@ class Calls:
             if not is_report or ends_report or line.startswith("error: "):
                 answer, self._report = self._report, []
                 return answer
+
+
+class RenamedDesk(Calls):
+    """A desk of a session over a checkpoint, at which parcels and entries have the register's ids and numbers."""
+
+    def __init__(self, desk: Calls, checkpoint: Checkpoint) -> None:
+        """Takes the desk, in the ids of its session."""
+        self._desk, self._checkpoint = desk, checkpoint
+
+    def ask(self, line: str) -> str:
+        """As a desk's."""
+        return self._checkpoint.outward(self._desk.ask(self._checkpoint.inward(line)))
+
+    def ask_all(self, lines: Sequence[str]) -> List[str]:
+        """As a desk's."""
+        return list(map(self._checkpoint.outward, self._desk.ask_all(list(map(self._checkpoint.inward, lines)))))
 
 
 def _sendable(line: str) -> bytes:

@@ -5,9 +5,11 @@ import argparse
 import csv
 import json
 import sys
-from typing import Any, Dict, List
+from pathlib import Path
+from typing import Any, Dict, List, Optional, Tuple
 
 from ..errors import JournalRefused, Refused
+from .checkpoint import checkpoint_of, is_checkpoint
 from .repair_command import run_repair
 from .journals import Change, Journal, JournalRecord, changes_of, read_journal
 
@@ -32,7 +34,16 @@ def add_journal(commands: Any) -> None:
         "--repair", action="store_true", help="say what is damaged, where, and what can be kept; FILE stays as it is"
     )
     command.add_argument(
-        "--out", metavar="NEW", help="with --repair: write the entries that are proved to a new journal"
+        "--checkpoint",
+        action="store_true",
+        help="begin a new journal over the layer that FILE leaves, with the ids kept; FILE stays as it is",
+    )
+    command.add_argument("--of", metavar="LAYER", help="with --checkpoint: the layer of FILE, as prepare wrote it")
+    command.add_argument("--island", type=int, metavar="N", help="with --checkpoint: the part of the city, from 1")
+    command.add_argument(
+        "--out",
+        metavar="NEW",
+        help="with --repair: write the entries that are proved to a new journal; with --checkpoint: the folder",
     )
     command.add_argument("--rest", metavar="EDITS", help="with --repair: write what can be read behind the damage")
     command.set_defaults(fail=command.error)
@@ -43,19 +54,19 @@ def run_journal(options: argparse.Namespace) -> int:
 
     Refused where it can't be read, or with the first line that is not as it was written.
     """
+    is_table = options.json or options.csv or options.parcels is not None
+    if options.repair or options.checkpoint:
+        if is_table or options.repair and options.checkpoint:
+            options.fail("--repair and --checkpoint are given without --json, --csv and --parcels, and one alone")
     if options.repair:
-        if options.json or options.csv or options.parcels is not None:
-            options.fail("--repair is given with --out and --rest alone")
         return run_repair(options.file, options.out, options.rest)
+    if options.checkpoint:
+        return _run_checkpoint(options)
     if options.out is not None or options.rest is not None:
-        options.fail("--out and --rest are given with --repair")
+        options.fail("--out is given with --repair or --checkpoint, and --rest with --repair")
     if options.parcels is not None and options.parcels < 1:
         raise Refused("P13", f"--parcels {options.parcels}: the layer has at least 1 parcel")
-    try:
-        journal = read_journal(options.file)
-    except JournalRefused as fault:
-        raise _refused(options.file, fault) from None
-    changes = changes_of(journal, options.parcels)
+    journal, changes = _joined(options) if is_checkpoint(options.file) else _read(options.file, options.parcels)
     if options.json:
         print(json.dumps(_told(journal, changes), ensure_ascii=False))
     elif options.csv:
@@ -68,6 +79,41 @@ def run_journal(options: argparse.Namespace) -> int:
         text = f"{journal.torn} bytes behind the last entry are the beginning of one that was never answered"
         print(f"note: {options.file}: {text}", file=sys.stderr)
     return 0
+
+
+def _run_checkpoint(options: argparse.Namespace) -> int:
+    """Makes a checkpoint, and prints how a session goes on from it."""
+    from .checkpoint_writing import make_checkpoint
+
+    if options.of is None or options.out is None or options.rest is not None:
+        options.fail("--checkpoint is given with --of LAYER and --out FOLDER")
+    made = make_checkpoint(Path(options.file), Path(options.of), Path(options.out), options.island)
+    print(f"{options.out}: {made.ids.count} parcels after {made.before} entries, under the ids that they have")
+    print(f"go on with it: gandovel serve {options.out} --journal {made.journal}")
+    return 0
+
+
+def _read(path: str, parcels: Optional[int]) -> Tuple[Journal, List[Change]]:
+    """A journal and what its records take out and bring. Refused as `run_journal` is."""
+    try:
+        journal = read_journal(path)
+    except JournalRefused as fault:
+        raise _refused(path, fault) from None
+    return journal, changes_of(journal, parcels)
+
+
+def _joined(options: argparse.Namespace) -> Tuple[Journal, List[Change]]:
+    """All entries of a register that goes on from a checkpoint, in its own ids, as if they stood in one journal."""
+    of = checkpoint_of(Path(options.file))
+    if options.parcels is not None:
+        options.fail("--parcels is of a journal's file: a checkpoint knows its ids")
+    journal, changes = _read(str(of.journal), of.ids.count)
+    if journal.layer != of.begins:
+        text = f"{of.journal} is of another layer than {of.folder}: put the journal that was begun with it in its place"
+        raise Refused("P19", text)
+    records = (*(it.record for it in of.past), *map(of.record, journal.records))
+    digest = journal.digest if journal.records else of.digest
+    return Journal(of.layer, records, journal.torn, digest), [*of.changes, *map(of.change, changes)]
 
 
 def table_of(journal: Journal, changes: List[Change]) -> List[str]:

@@ -24,7 +24,8 @@ from ..reading.points import on_grid, points_of
 from ..reading.prepared import OUT_ROW, Prepared
 from ..reading.register import Options, Register, register_of
 from .answers import Accepted
-from .desk_calls import Calls
+from .checkpoint import Checkpoint, checkpoint_of, is_checkpoint
+from .desk_calls import Calls, RenamedDesk
 from .own_folder import OwnFolder
 from .session import Session
 from .tail import History
@@ -56,7 +57,8 @@ def open(
     Parameters
     ----------
     parcels : Prepared, path, GeoDataFrame or GeoSeries
-        The register as it was before the first edit; with the options of `prepare` where it is not prepared yet.
+        The register as it was before the first edit; with the options of `prepare` where it is not prepared yet. Or the
+        folder of a checkpoint, whose journal is taken where none is named: entries and ids go through it.
     journal : path, optional
         Where its edits are kept: those that are there are made first. Without it they are gone with the session.
     island : int, optional
@@ -90,14 +92,18 @@ def open(
     ...     register.parcels[["came_from", "area2_mm2"]].values.tolist()
     [['7,8', 400000000]]
     """
-    prepared = register_of(parcels, None, **options)
+    checkpoint = checkpoint_of(Path(parcels)) if is_checkpoint(parcels) else None  # type: ignore[arg-type]
+    prepared = register_of(parcels if checkpoint is None else checkpoint.origin, None, **options)
     count = len(prepared.islands)
+    island = island if checkpoint is None or island is not None else checkpoint.island
     if island is None and count > 1:
         raise Refused("P13", f"the city has {count} parts, and a journal is of one: say which by island=", "parcels")
     if island is not None and not 1 <= island <= count:
         raise Refused("P13", f"part {island} of the city is not there: it has {count}", "parcels")
     test_editable(prepared.islands[(island or 1) - 1])
-    return OpenRegister(prepared, (island or 1) - 1, journal, desks, timeout)
+    if checkpoint is not None and island != checkpoint.island:
+        raise Refused("P13", f"island={island}: the checkpoint {parcels} is of part {checkpoint.island}", "parcels")
+    return OpenRegister(prepared, (island or 1) - 1, journal, desks, timeout, checkpoint)
 
 
 class OpenRegister:
@@ -122,18 +128,23 @@ class OpenRegister:
         journal: Optional[PathLike],
         desks: Sequence[str],
         timeout: Optional[float],
+        checkpoint: Optional[Checkpoint] = None,
     ) -> None:
         """Begins the session; `open` says what is taken, and `at` is the island, from 0."""
-        self.prepared, self._at = prepared, at
+        self.prepared, self._at, self._checkpoint = prepared, at, checkpoint
         self._folder = OwnFolder()
         self._parcels: Optional[Tuple[int, gpd.GeoDataFrame]] = None
         self._rows = prepared.islands[at].parcels.source
         try:
-            write_island(Path(self._folder.name), prepared.islands[at])
+            self._layers = self._path("city.shp"), self._path("parcels.shp")
             self.journal = os.path.join(self._folder.name, "journal") if journal is None else os.fspath(journal)
+            if checkpoint is None:
+                write_island(Path(self._folder.name), prepared.islands[at])
+            else:
+                self._layers = checkpoint.layers
+                self.journal = str(checkpoint.journal) if journal is None else self.journal
             names = (OWN_DESK, *desks) if desks else ()
-            layers = self._path("city.shp"), self._path("parcels.shp")
-            self.session = Session(*layers, journal=self.journal, desks=names, timeout=timeout)
+            self.session = Session(*self._layers, journal=self.journal, desks=names, timeout=timeout)
         except JournalRefused as fault:
             self._folder.cleanup()
             words = _ADVICE.get(fault.code, "this edit does not fit the layer: give the layer that the journal is of")
@@ -143,7 +154,10 @@ class OpenRegister:
             raise
         try:
             self._desk: Calls = self.session.desk(OWN_DESK) if desks else self.session
-            self._past = History(Path(self.journal), len(self._rows))
+            if checkpoint is not None:
+                self._desk = RenamedDesk(self._desk, checkpoint)
+            count = len(self._rows) if checkpoint is None else checkpoint.ids.count
+            self._past = History(Path(self.journal), count, checkpoint)
         except BaseException:
             self.session.terminate()
             self._folder.cleanup()
@@ -170,7 +184,7 @@ class OpenRegister:
         return self._parcels[1].copy()
 
     def _parcels_after(self, count: int) -> gpd.GeoDataFrame:
-        self._replayed([record.edit for record in self._past.records(count)])
+        self._replayed(self._past.lines(count))
         ids = self._past.ids(count)
         frame = back(self.prepared, read_rings(self._path("new.shp")), self._at, ids)
         doubled = tool.areas(self._path("new.shp"))
@@ -193,7 +207,7 @@ class OpenRegister:
             new (text: ids that it took out and brought), edit (the journal's line: ids, mm).
         """
         records = self._past.records(self.count())
-        changes = self._past.changes[: len(records)]
+        changes = self._past.changes(len(records))
         columns = {
             "time": pd.Series([record.time for record in records], dtype="datetime64[ns, UTC]"),
             "clerk": [record.clerk for record in records],
@@ -292,12 +306,15 @@ class OpenRegister:
 
         The program makes the entries and these edits on the layer as it was, apart from the session.
         """
-        done = [record.edit for record in self._past.records(count)]
-        first = [self._past.last[count] + 1]
+        done = self._past.lines(count)
+        first = [self._past.next_id(count)]
         for edit in edits:
             first.append(first[-1] + BRINGS[type(edit)])
         lines = [self._line(edit, lambda new: Id(first[new.edit] + new.which)) for edit in edits]
-        return self._replayed([*done, *lines])[count:]
+        of = self._checkpoint
+        if of is None:
+            return self._replayed([*done, *lines])[len(done) :]
+        return list(map(of.outward, self._replayed([*done, *map(of.inward, lines)])[len(done) :]))
 
     def path(self, name: str) -> str:
         """What `gandovel.Desk.at` is given for the desk of another clerk with this name. ValueError where none has
@@ -333,7 +350,7 @@ class OpenRegister:
         """The program's answers (`ok ..`, `refused ..`) to edits of the layer as it was; the parcels are `new.shp`."""
         clerk = Path(self._path("edits.txt"))
         clerk.write_text("".join(f"{line}\n" for line in lines))
-        told = tool.export(self._path("city.shp"), self._path("parcels.shp"), self._path("new"), [clerk])
+        told = tool.export(*self._layers, self._path("new"), [clerk])
         return [answer.split(" ", 4)[4] for answer in told]
 
     def _line(self, edit: Edit, given: Optional[Callable[[NewId], Id]]) -> str:
@@ -345,10 +362,9 @@ class OpenRegister:
         """The id of a parcel. Refused P13 where a number is none, or of a parcel that an entry took out."""
         number = id_of(self.prepared, parcel, self._at)
         if not isinstance(parcel, Id):
-            self._past.read_to(self.count())
-            entry = self._past.taken.get(number)
-            if entry is not None:
-                new = ", ".join(f"Id({it})" for it in self._past.changes[entry - 1].new)
+            taken = self._past.taken(number, self.count())
+            if taken is not None:
+                entry, new = taken[0], ", ".join(f"Id({it})" for it in taken[1])
                 raise Refused("P13", f"entry {entry} took it out, and brought {new}", "parcels", number=str(parcel))
         return number
 

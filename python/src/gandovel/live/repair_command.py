@@ -19,7 +19,7 @@ def run_repair(path: str, out: Optional[str], rest: Optional[str]) -> int:
     Refused
         S1, "in use", "no journal": the file can't be read. P14: a file that is there already, or can't be written.
     """
-    data = _read(path)
+    data = read_closed(path)
     try:
         made = repair(data)
     except JournalRefused:
@@ -61,7 +61,7 @@ def rest_of(made: Repair) -> bytes:
     return "".join(f"{line}\n" for line in lines).encode()
 
 
-def _read(path: str) -> bytes:
+def read_closed(path: str) -> bytes:
     """The bytes of a journal that no session has open."""
     try:
         with open(path, "rb") as file:

@@ -3,9 +3,10 @@ from __future__ import annotations
 
 import os
 from pathlib import Path
-from typing import Dict, List
+from typing import Dict, List, Optional, Tuple
 
 from ..errors import BadAnswer, JournalRefused
+from .checkpoint import Checkpoint
 from .journals import Chain, Change, Journal, JournalRecord, changes_of
 
 PART = 1 << 20
@@ -18,9 +19,10 @@ class Tail:
     What a session answered `ok` is in the file before the answer, so it is there when it is looked for.
     """
 
-    def __init__(self, path: Path) -> None:
-        """Reads what is there. Raises `JournalRefused` as `read_journal` does."""
-        self.records: List[JournalRecord] = []
+    def __init__(self, path: Path, before: Optional[Checkpoint] = None) -> None:
+        """Reads what is there, behind the entries `before` it. Raises `JournalRefused` as `read_journal` does."""
+        self.records: List[JournalRecord] = [] if before is None else [it.record for it in before.past]
+        self._before = before
         self.grown = 0
         """How often it had to be read on for an edit that was answered: each time stands for a synchronisation of its
         own."""
@@ -53,7 +55,8 @@ class Tail:
         try:
             part = os.read(self._file, PART)
             while part:
-                self.records += self._chain.feed(part)
+                found = self._chain.feed(part)
+                self.records += found if self._before is None else map(self._before.record, found)
                 part = os.read(self._file, PART) if len(part) == PART else b""
         except OSError as fault:
             raise JournalRefused("S1", f"the journal can't be read: {fault.strerror}") from fault
@@ -66,36 +69,75 @@ class Tail:
 
 
 class History:
-    """The entries of a journal as they come, and what each took out and brought."""
+    """The entries of a register as they come, and what each took out and brought; through a checkpoint, if it has one.
 
-    def __init__(self, path: Path, parcels: int) -> None:
-        """Takes the journal, and how many parcels the layer has, whose ids are 1 and on."""
-        self._tail = Tail(path)
-        self.changes: List[Change] = []
-        self.last = [parcels]
-        """The greatest id behind each entry, and first before all."""
-        self.taken: Dict[int, int] = {}
-        """The entry that took each id out."""
+    Numbers and ids are the register's, but for those that `lines` has.
+    """
+
+    def __init__(self, path: Path, parcels: int, checkpoint: Optional[Checkpoint] = None) -> None:
+        """Takes the journal, and how many parcels its layer has; the checkpoint that the layer is of."""
+        self._tail, self._of = Tail(path), checkpoint
+        self._before = checkpoint.before if checkpoint else 0
+        self._changes: List[Change] = []
+        self._last = [parcels]
+        """The greatest id behind each entry of the journal, and first before all: the session's."""
+        self._taken: Dict[int, int] = {}
+        """The entry of the journal that took each id of the session out."""
 
     def read_to(self, count: int) -> None:
         """Reads on to an entry, which the session has answered or shown."""
-        self._tail.read_to(count)
-        known = len(self.changes)
+        self._tail.read_to(count - self._before)
+        known = len(self._changes)
         news = tuple(self._tail.records[known:])
         if news:
-            self.changes += changes_of(Journal("", news, 0, ""), self.last[-1])
-        for entry, change in enumerate(self.changes[known:], known + 1):
-            self.last.append(self.last[-1] + len(change.new))
-            self.taken.update((int(number), entry) for number in change.out)
+            self._changes += changes_of(Journal("", news, 0, ""), self._last[-1])
+        for entry, change in enumerate(self._changes[known:], known + 1):
+            self._last.append(self._last[-1] + len(change.new))
+            self._taken.update((int(number), entry) for number in change.out)
+
+    def lines(self, count: int) -> List[str]:
+        """The edits of the journal up to entry `count`, with the session's ids."""
+        self.read_to(count)
+        return [record.edit for record in self._tail.records[: count - self._before]]
 
     def records(self, count: int) -> List[JournalRecord]:
         """The first `count` entries."""
         self.read_to(count)
-        return self._tail.records[:count]
+        records = self._tail.records[: count - self._before]
+        of = self._of
+        return records if of is None else [*(it.record for it in of.past), *map(of.record, records)]
+
+    def changes(self, count: int) -> List[Change]:
+        """What each of the first `count` entries took out and brought, as `changes_of` tells it."""
+        self.read_to(count)
+        changes, of = self._changes[: count - self._before], self._of
+        if of is None:
+            return changes
+        return [*of.changes, *map(of.change, changes)]
+
+    def taken(self, parcel: int, count: int) -> Optional[Tuple[int, Tuple[str, ...]]]:
+        """The entry that took an id out, up to entry `count`, and the ids that it brought; None where none did."""
+        self.read_to(count)
+        of = self._of
+        local = parcel if of is None else of.ids.inward(parcel)
+        entry = of.taken.get(parcel) if of is not None and local is None else self._taken.get(local or 0)
+        if entry is None:
+            return None
+        if of is not None and local is None:
+            return entry, of.past[entry - 1].change.new
+        change = self._changes[entry - 1]
+        return self._before + entry, (change if of is None else of.change(change)).new
 
     def ids(self, count: int) -> List[int]:
         """The ids of the parcels after so many entries, ascending."""
-        return [it for it in range(1, self.last[count] + 1) if self.taken.get(it, count + 1) > count]
+        entry = count - self._before
+        there = [it for it in range(1, self._last[entry] + 1) if self._taken.get(it, entry + 1) > entry]
+        return there if self._of is None else [self._of.ids.outward(it) for it in there]
+
+    def next_id(self, count: int) -> int:
+        """The id that the next parcel gets after so many entries."""
+        following = self._last[count - self._before] + 1
+        return following if self._of is None else self._of.ids.outward(following)
 
     def close(self) -> None:
         """Closes the journal."""

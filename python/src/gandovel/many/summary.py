@@ -6,7 +6,7 @@ import io
 import json
 import re
 from collections import Counter, defaultdict
-from dataclasses import dataclass, field, replace
+from dataclasses import astuple, dataclass, field, replace
 from typing import TYPE_CHECKING, AbstractSet, Any, Dict, FrozenSet, List, Mapping, Optional, Sequence, Tuple
 
 from ..errors import Refused
@@ -355,61 +355,32 @@ class Summary:
         text = io.StringIO()
         writer = csv.writer(text, lineterminator="\n")
         writer.writerow(COLUMNS)
-        for it in self.verdicts:
-            cells = (
-                it.name,
-                it.verdict,
-                it.code,
-                it.layer,
-                it.text,
-                it.parcels,
-                it.area2,
-                it.pairs,
-                it.split,
-                it.edits_refused,
-                it.seconds,
-                it.memory_kb,
-            )
-            writer.writerow(["" if cell is None else cell for cell in cells])
+        writer.writerows(map(astuple, self.verdicts))
         return text.getvalue()
 
     def facts(self) -> str:
         """`summary.json`: the counts, and what follows for each city that has districts."""
         counts = Counter(it.verdict for it in self.verdicts)
-        return json.dumps(
+        told: Dict[str, Any] = {"cities": len(self.verdicts)}
+        told.update((kind, counts[kind]) for kind in ("tiles", "refused", "misfiled", "open", "none"))
+        told.update(kept=self.kept, differing=self.differing, seconds=round(self.seconds, 3))
+        told.update((name, getattr(self, name)) for name in ("gaps", "overlaps", "rings", "crossings", "untold"))
+        told["wholes"] = [
             {
-                "cities": len(self.verdicts),
-                "tiles": counts["tiles"],
-                "refused": counts["refused"],
-                "misfiled": counts["misfiled"],
-                "open": counts["open"],
-                "none": counts["none"],
-                "kept": self.kept,
-                "differing": self.differing,
-                "seconds": round(self.seconds, 3),
-                "gaps": self.gaps,
-                "overlaps": self.overlaps,
-                "rings": self.rings,
-                "crossings": self.crossings,
-                "untold": self.untold,
-                "wholes": [
-                    {
-                        "name": it.name,
-                        "districts": it.districts,
-                        "verdict": it.kind,
-                        "tiles": it.tiles,
-                        "layer": it.layer and it.layer.verdict,
-                        "said": it.said,
-                        "parcels": it.parcels,
-                        "area2_mm2": it.area2,
-                        "pairs": it.pairs,
-                        "split": it.split,
-                    }
-                    for it in self.wholes
-                ],
-            },
-            indent=1,
-        )
+                "name": it.name,
+                "districts": it.districts,
+                "verdict": it.kind,
+                "tiles": it.tiles,
+                "layer": it.layer and it.layer.verdict,
+                "said": it.said,
+                "parcels": it.parcels,
+                "area2_mm2": it.area2,
+                "pairs": it.pairs,
+                "split": it.split,
+            }
+            for it in self.wholes
+        ]
+        return json.dumps(told, indent=1)
 
 
 def _count(number: int, one: str, many: str) -> str:

@@ -3,7 +3,6 @@ from __future__ import annotations
 
 import csv
 import io
-import os
 import tempfile
 from collections import defaultdict
 from dataclasses import dataclass
@@ -34,6 +33,7 @@ from ..progress import Progress
 from ..reading.prepared import OUT_ROW, TOUCHED, Island, Prepared
 from ..reading.register import Options, Register, register_of
 from ..reading.sources import Source
+from ..whole_file import whole_file
 from . import descriptions
 from .area_words import areas_text, counted, largest_first
 from .basis import Basis
@@ -211,7 +211,8 @@ class Report:
         notes["touched"] = f"{notes['touched']}\n{self.basis.histogram()}".rstrip()
         write_layers(path, layers, STYLES, notes)
         if self.zones is not None:
-            _write_text(path.with_name("split.csv"), self.table())
+            with whole_file(path.with_name("split.csv")) as aside:
+                aside.write_text(self.table(), encoding="utf-8")
 
     def table(self) -> str:
         """`split.csv`: one line for each part of a split parcel."""
@@ -223,18 +224,6 @@ class Report:
         for number, zone, area, share, *others in zip(*columns):
             writer.writerow([number, zone, f"{area:.6f}", f"{share:.6f}", *others])
         return text.getvalue()
-
-
-def _write_text(path: Path, text: str) -> None:
-    aside = path.with_name(f".{os.getpid()}.{path.name}")
-    try:
-        aside.write_text(text, encoding="utf-8")
-        os.replace(aside, path)
-    except OSError as fault:
-        raise Refused("P14", f"{path} can't be written: {fault}") from fault
-    finally:
-        if aside.exists():
-            aside.unlink()
 
 
 def _told(report: Report, layer: str) -> str:

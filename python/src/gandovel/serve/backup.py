@@ -10,6 +10,7 @@ from typing import Dict, List
 
 from ..errors import Refused
 from ..live.answers import start_refused
+from ..live.checkpoint import is_checkpoint
 from ..live.journals import journal_of
 from ..program.tool import find_tool
 
@@ -23,6 +24,9 @@ def back_up(folder: Path, journal: Path, out: Path) -> str:
     session is opened with the copy, and closed: so it can be restored. Refused P1, P14, as `read_journal` does, and as
     a session's start is, as for the journal of another layer.
     """
+    if is_checkpoint(folder):
+        text = "close its session, and copy the folder, and the journal that it goes on from, as they lie"
+        raise Refused("P1", f"{folder} is a checkpoint, which backup does not copy: {text}")
     for path in (folder / "prepared.json", journal):
         if not path.is_file():
             raise Refused("P1", f"{path} is not there")

@@ -102,7 +102,7 @@ class Drafts:
             raise Faulty("faults", "the parcels have faults: no edit is taken, and no draft kept")
         await register.shown()
         async with self._one:
-            program = await Program.start(register.layer.words)
+            program = await Program.start(register.layer.words, checkpoint=register.layer.checkpoint)
             try:
                 return await _tried(register, program, edit)
             finally:
@@ -153,8 +153,8 @@ def _read(path: Path) -> List[Draft]:
 
 async def _tried(register: Register, program: Program, edit: str) -> Seen:
     """Makes all entries by a run of the program, and then the edit, of which the journal hears nothing."""
-    lines, entries = program.operator, list(register.entries)
-    for at in range(0, len(entries), AHEAD):
+    lines, entries, of = program.operator, list(register.entries), register.layer.checkpoint
+    for at in range(0 if of is None else of.before, len(entries), AHEAD):
         for told in [lines.put(it.edit.encode()) for it in entries[at : at + AHEAD]]:
             test_error((await told)[0].decode())
     answer = (await lines.put(edit.encode()))[0].decode()

@@ -50,11 +50,14 @@ class Follower:
         Those that come after are followed as all are, so that their versions are kept over a start. Where the follower
         alone ended, the rows are known; it has to come to the same, else `BadAnswer` is raised.
         """
-        self.program = await Program.start(words)
-        early = max(0, len(records) - keep) if self._is_new else len(self._published.entries)
+        of = self._layer.checkpoint
+        self.program = await Program.start(words, checkpoint=of)
+        before = 0 if of is None else of.before
+        early = max(before, len(records) - keep) if self._is_new else len(self._published.entries)
         lines = self.program.operator
-        answers = [lines.put(record.edit.encode()) for record in records[:early]]
-        accepted = [accepted_of((await answer)[0].decode()) for answer in answers]
+        answers = [lines.put(record.edit.encode()) for record in records[before:early]]
+        accepted = [] if of is None else [Accepted(it.record.number, *map(_ids, it.change)) for it in of.past]
+        accepted += [accepted_of((await answer)[0].decode()) for answer in answers]
         if self._is_new:
             await self._publish_first(records[:early], accepted)
             self._is_new = False
@@ -111,6 +114,10 @@ class Follower:
     def _asked_rows(self, parcels: Sequence[int]) -> List[AskedRow]:
         assert self.program is not None
         return asked_rows(self.program, parcels)
+
+
+def _ids(texts: Sequence[str]) -> Tuple[int, ...]:
+    return tuple(map(int, texts))
 
 
 def asked_rows(program: Program, parcels: Sequence[int]) -> List[AskedRow]:

@@ -13,6 +13,7 @@ import pandas as pd
 
 from ..arrays import Array
 from ..errors import Refused
+from ..live.checkpoint import Checkpoint, checkpoint_of, is_checkpoint
 from ..reading.prepared import OUT, OUT_ROW, Prepared, load
 from .crs import Projection, projection_of
 from .entries import Entry, Versions
@@ -53,6 +54,8 @@ class Layer:
         self.island = self.prepared.islands[island - 1]
         place = self.prepared.folders(folder)[island - 1]
         self._files = [place / name for name in ("city.shp", "parcels.shp")]
+        self.checkpoint: Optional[Checkpoint] = None
+        """The checkpoint that the register goes on from: entries before it are known, and are not made again."""
         self.zones = place / "zones.shp" if self.island.zones is not None else None
         low, high = self.island.city.min(axis=0), self.island.city.max(axis=0)
         self.projection = Projection(_crs_of(folder, self.prepared, crs), self.prepared.scale, low, high)
@@ -70,6 +73,16 @@ class Layer:
         self._is_date: Dict[int, bool] = {}
         self._has_dates = any(_DATE.match(number) for number in self.prepared.numbers)
         self.kinds, self.zone_kinds = kinds_of(self.attributes), kinds_of(self.zone_attributes)
+
+    @classmethod
+    def of(cls, folder: Path, island: int = 1, crs: Optional[str] = None) -> "Layer":
+        """The layer of a folder of `prepare`, or as it was before all edits of a checkpoint. Refused also P19."""
+        if not is_checkpoint(folder):
+            return cls(folder, island, crs)
+        checkpoint = checkpoint_of(folder)
+        layer = cls(checkpoint.origin, checkpoint.island, crs)
+        layer.checkpoint, layer._files = checkpoint, list(map(Path, checkpoint.layers))
+        return layer
 
     @property
     def words(self) -> List[str]:

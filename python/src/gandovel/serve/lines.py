@@ -7,6 +7,7 @@ from collections import deque
 from typing import Callable, Deque, List, Optional
 
 from ..errors import ProgramEnded
+from ..live.checkpoint import Checkpoint
 
 PART = 1 << 18
 """How many bytes are read at once."""
@@ -147,6 +148,22 @@ class Lines:
                 answer.exception()  # one that nobody waits for is no news
         if told is not None:
             told()
+
+
+class RenamedLines(Lines):
+    """Lines to a session over a checkpoint: parcels and entries have the register's ids and numbers."""
+
+    def __init__(self, checkpoint: Checkpoint, outward: int, inward: int) -> None:
+        """Takes the checkpoint, and two file descriptors as `Lines`."""
+        super().__init__(outward, inward)
+        self._checkpoint = checkpoint
+
+    def put(self, line: bytes, is_report: bool = False) -> "asyncio.Future[List[bytes]]":
+        """As of `Lines`."""
+        return super().put(self._checkpoint.inward(line.decode()).encode(), is_report)
+
+    def _take(self, line: bytes) -> None:
+        super()._take(self._checkpoint.outward(line.decode()).encode())
 
 
 def _ended() -> ProgramEnded:

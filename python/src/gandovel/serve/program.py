@@ -9,14 +9,16 @@ import re
 import signal
 import subprocess
 import tempfile
+from functools import partial
 from pathlib import Path
 from typing import IO, List, Optional, Sequence, Tuple
 
 from ..errors import JournalInUse, ProgramEnded, Refused, TimedOut
 from ..live.answers import count_of, start_refused, test_error
+from ..live.checkpoint import Checkpoint
 from ..live.pipes import limit_of, open_pipes
 from ..program.tool import find_tool
-from .lines import Lines
+from .lines import Lines, RenamedLines
 
 PATIENCE = 5.0
 """Seconds that a program has to end by SIGTERM, before it is killed."""
@@ -42,19 +44,28 @@ class Program:
         self._errors = errors
 
     @classmethod
-    async def start(cls, words: Sequence[str], names: Sequence[str] = (), journal: Optional[str] = None) -> "Program":
+    async def start(
+        cls,
+        words: Sequence[str],
+        names: Sequence[str] = (),
+        journal: Optional[str] = None,
+        checkpoint: Optional[Checkpoint] = None,
+    ) -> "Program":
         """Runs `session WORDS`, with desks whose pipes have these names (`Room.pipes`), and waits until it is ready.
 
+        Over the layer of a `checkpoint` its lines have the register's ids and numbers, and so has `replayed`.
         Refused as a session's start is; `ProgramEnded`; `TimedOut`.
         """
         command = [find_tool(), "session", *words, *(word for name in names for word in ("--desk", name))]
         command += [] if journal is None else ["--journal", journal]
         errors = tempfile.TemporaryFile()
-        program = cls(*_begun(command, errors), errors)
+        lines = Lines if checkpoint is None else partial(RenamedLines, checkpoint)
+        process, *ends = _begun(command, errors)
+        program = cls(process, lines(*ends), errors)
         try:
             await program._make_ready(journal)
             for name in names:
-                program.desks.append(Lines(*await _opened(name, program.process)))
+                program.desks.append(lines(*await _opened(name, program.process)))
         except BaseException:
             program.kill()
             raise
@@ -117,8 +128,8 @@ class Program:
         return pages * os.sysconf("SC_PAGE_SIZE")
 
 
-def _begun(command: Sequence[str], errors: IO[bytes]) -> "Tuple[subprocess.Popen[bytes], Lines]":
-    """Runs the program: its process, and the lines of its standard input and output. Refused T1."""
+def _begun(command: Sequence[str], errors: IO[bytes]) -> "Tuple[subprocess.Popen[bytes], int, int]":
+    """Runs the program: its process, and the ends of pipes to its standard input and output. Refused T1."""
     lines, outward = os.pipe()
     inward, answers = os.pipe()
     try:
@@ -138,7 +149,7 @@ def _begun(command: Sequence[str], errors: IO[bytes]) -> "Tuple[subprocess.Popen
     finally:
         os.close(lines)
         os.close(answers)
-    return process, Lines(outward, inward)
+    return process, outward, inward
 
 
 class Room:

@@ -111,7 +111,7 @@ class Register:
         if self._room is None:
             self._room = Room(self.journal.with_name(self.journal.name + ".desks"))
         names, words = self._room.pipes(DESKS), self.layer.words
-        self._session = await Program.start(words, names, str(self.journal))
+        self._session = await Program.start(words, names, str(self.journal), self.layer.checkpoint)
         records = await self._read_journal(self._session.replayed)
         if not self.follower.runs:
             await self.follower.begin(words, records, self._keep)
@@ -130,7 +130,7 @@ class Register:
 
     async def _read_journal(self, count: int) -> List[JournalRecord]:
         """The journal's records; they have to be as many as the session has, and begin with those that are known."""
-        tail = await asyncio.get_running_loop().run_in_executor(None, Tail, self.journal)
+        tail = await asyncio.get_running_loop().run_in_executor(None, Tail, self.journal, self.layer.checkpoint)
         if self._tail is not None:
             self._synchronised += self._tail.grown
             self._tail.close()
@@ -315,8 +315,11 @@ class Register:
 
     @property
     def layer_digest(self) -> str:
-        """SHA-256 of the layer, with which the journal's chain of digests begins; empty where there is no journal."""
-        return self._tail.layer if self._tail is not None else ""
+        """SHA-256 of the layer, with which the journal's chain of digests begins; empty where there is no journal.
+
+        Of several journals it is the first one's."""
+        of = self.layer.checkpoint
+        return of.layer if of is not None else self._tail.layer if self._tail is not None else ""
 
     def health(self) -> Dict[str, Any]:
         """State, entries, and how often the session was started anew."""

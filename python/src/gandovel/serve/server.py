@@ -21,6 +21,7 @@ from starlette.middleware.cors import CORSMiddleware
 from uvicorn.protocols.http.httptools_impl import HttpToolsProtocol
 
 from ..errors import Refused
+from ..live.checkpoint import is_checkpoint
 from ..metropolis.manifest import is_metropolis
 from .access import Clients, Tokens
 from .app import application
@@ -205,11 +206,11 @@ def serve(options: argparse.Namespace) -> None:
     if is_metropolis(folder):
         _serve_metropolis(options, clients, security)
         return
-    if folder.resolve() in journal.resolve().parents:
+    if folder.resolve() in journal.resolve().parents and not is_checkpoint(folder):
         raise Refused(
             "W2", "the journal may not lie in the layer's folder, which prepare replaces: give it another folder"
         )
-    layer = Layer(folder, options.island, options.crs)
+    layer = Layer.of(folder, options.island, options.crs)
     islands = len(layer.prepared.islands)
     if islands > 1:
         text = f"island {options.island} of {islands} is served, with {layer.count} parcels: name another by --island"
