@@ -266,7 +266,7 @@
       Sheet.print(byId("sheet"), feature, [...near, ...own], titleOf(feature), lines,
         { ...data.told, title: document.title, summary: byId("summary").textContent });
     });
-    return [element("a", "Link to it", { href: hashOf(feature.properties.number) }), print];
+    return [" ", element("a", "Link to it", { href: hashOf(feature.properties.number) }), " ", print];
   }
   let touched = false, pointed = null;
   document.addEventListener("pointerdown", (event) => { touched = event.pointerType === "touch"; }, true);

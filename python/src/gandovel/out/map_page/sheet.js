@@ -36,6 +36,12 @@ const Sheet = {
       shape.setAttribute("d", it.rings.map((ring) => `M${path(ring)} Z`).join(" "));
       shape.setAttribute("class", it === feature ? "this" : it.layer);
       svg.append(shape);
+      if (it.layer !== "parcels") continue;
+      const [x, y] = ParcelMap.placeOf(it), text = document.createElementNS(name, "text");
+      for (const [key, value] of Object.entries({ x: x - low[0], y: high[1] - y, "font-size": edge / 6, "text-anchor": "middle" }))
+        text.setAttribute(key, String(value));
+      text.textContent = it.properties.number;
+      svg.append(text);
     }
     return svg;
   },
