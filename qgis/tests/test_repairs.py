@@ -2,7 +2,10 @@
 from __future__ import annotations
 
 import csv
+import json
+import os
 import sqlite3
+import subprocess
 from pathlib import Path
 from typing import Any, Dict, List, Tuple
 
@@ -160,3 +163,22 @@ def test_a_register_of_another_format_is_beside_the_layer(qgis: Any, tmp_path: P
     assert QgsVectorLayer(f"{path}|layername=gandovel_faults", "register", "ogr").featureCount() == 1
     with sqlite3.connect(path) as connection:
         assert connection.execute("PRAGMA integrity_check").fetchone() == ("ok",)
+
+
+def test_a_fault_has_the_identity_that_known_takes(qgis: Any, tmp_path: Path) -> None:
+    """Of all kinds, in metres and in feet: `--known` of what the package prints knows what the dock lists."""
+    from gandovel.check_task import CheckTask
+    from qgis.core import QgsVectorLayer
+
+    lens = Polygon([(0, 40), (9, 40), (9, 50), (0, 50)], [[(3, 43), (3, 46), (6, 46), (6, 43)]])
+    shapes = [*STRIP, box(0, 20, 3.3, 30), box(3, 20, 9, 30), box(0, 30, 9, 40), lens]
+    for crs in (25832, 2263):
+        path = written(tmp_path / f"{crs}.gpkg", shapes, crs=crs, parcel_no=[str(at) for at in range(len(shapes))])
+        found: List[Any] = []
+        layer = QgsVectorLayer(str(path), "parcels", "ogr")
+        task = CheckTask(layer, "parcel_no", None, "", found.append)
+        assert task.run() and task.outcome.refused == ""
+        command = [os.environ["GANDOVEL_PYTHON"], "-m", "gandovel", "check", path, "--number", "parcel_no", "--json"]
+        printed = subprocess.run(command, capture_output=True, text=True, check=False)
+        told = {fault["id"]: fault["kind"] for fault in json.loads(printed.stdout)["faults"]}
+        assert {fault.identity: fault.kind for fault in task.outcome.faults} == told and len(told) >= 3
