@@ -108,7 +108,7 @@ def test_what_others_change_comes_in(seen: Dict[str, Any]) -> None:
 def test_a_list_stops_at_the_first_refusal(seen: Dict[str, Any]) -> None:
     """What was made before stays; what comes after is not sent, and both stay in the list."""
     answer, entries, left = seen["refused"]
-    assert answer.startswith("Made: entries 6. Split was refused (E") and "1 edits of the list were not sent" in answer
+    assert answer.startswith("Made: entries 6. Split was refused (E") and "1 edit of the list was not sent" in answer
     assert entries == 6 and left == ["split", "insert"] and seen["left"] == 0
 
 

@@ -9,7 +9,7 @@ from qgis.core import Qgis, QgsApplication, QgsPointXY, QgsProject
 from qgis.PyQt.QtWidgets import QDockWidget
 
 from ..helping import show_help
-from ..words import tr
+from ..words import counted, tr
 from .client import Client, Unreachable
 from .drafts import Draft, after, hint, kind_text
 from .follow import Follow
@@ -90,7 +90,7 @@ class RegisterDock(QDockWidget):
             self.disconnect_register(loaded.amiss)
             return
         self._forget_layer()
-        title = tr("Register {address}", address=self.client.address)
+        title = tr("Register {address}", address=self.client.address.split("://")[-1])
         self.register = RegisterLayer(title, loaded.settings, loaded.parcels)
         QgsProject.instance().addMapLayer(self.register.layer)
         self.follow = Follow(self.client, self.register.entries)
@@ -329,8 +329,9 @@ class RegisterDock(QDockWidget):
         numbers = ", ".join(str(entry["number"]) for entry in posted.made)
         told = tr("Made: entries {numbers}.", numbers=numbers) if posted.made else ""
         if posted.refused:
-            left = tr("{count} edits of the list were not sent.", count=max(0, len(posted.left) - 1))
-            told = " ".join(text for text in (told, posted.refused, left if len(posted.left) > 1 else "") if text)
+            one, several = tr("1 edit of the list was not sent."), tr("{count} edits of the list were not sent.")
+            left = counted(max(0, len(posted.left) - 1), one, several, "")
+            told = " ".join(text for text in (told, posted.refused, left) if text)
         self._say(told, Qgis.MessageLevel.Warning if posted.refused else Qgis.MessageLevel.Success)
         self.look_again()
 

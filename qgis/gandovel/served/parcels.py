@@ -15,7 +15,12 @@ from qgis.core import (
     QgsVectorLayerSimpleLabeling,
 )
 
+from qgis.PyQt.QtGui import QColor
+
 from .checks import Corner
+
+COLOUR = "#ecece8"
+"""What parcels are filled with, as in the report's map."""
 
 OWN = {
     "id": "int8(0,0)",
@@ -68,8 +73,9 @@ class RegisterLayer:
 
     def _label(self) -> None:
         labels = QgsPalLayerSettings()
-        labels.fieldName = "coalesce(number, '')"
+        labels.fieldName = "coalesce(number, '(' || came_from || ')')"
         labels.isExpression = True
+        self.layer.renderer().symbol().setColor(QColor(COLOUR))
         self.layer.setLabeling(QgsVectorLayerSimpleLabeling(labels))
         self.layer.setLabelsEnabled(True)
 
