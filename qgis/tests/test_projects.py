@@ -37,7 +37,7 @@ def seen(place: Path) -> Dict[str, Any]:
 def test_a_verdict_goes_with_its_project(seen: Dict[str, Any]) -> None:
     """The next project's layer has a verdict of its own, and so has the first one again."""
     said, rows = seen["one"]
-    assert said.startswith("street: The parcels do not tile") and rows == 3
+    assert said.startswith("street: ") and "1 gap, 1 overlap, 1 open gap" in said and rows == 3
     assert seen["between"] == ["The layer that was checked is gone.", 0, True, 0]
     said, rows = seen["two"]
     assert said.startswith("three: The parcels do not tile") and rows == 1

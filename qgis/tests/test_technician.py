@@ -1,4 +1,4 @@
-"""A technician edits a layer of 2,500 parcels, with GANDOVEL_LONG of 40,000, with the dock open."""
+"""A technician edits a layer of 900 parcels, with GANDOVEL_LONG of 40,000, with the dock open."""
 from __future__ import annotations
 
 import os
@@ -11,9 +11,7 @@ from driving import driven, screen, with_plugin
 from layers_made import make_town
 
 LONG = bool(os.environ.get("GANDOVEL_LONG"))
-SIDE, EDITS, PLANTED = (
-    (200, 100, 40) if LONG else (int(os.environ.get("XSIDE", 50)), int(os.environ.get("XEDITS", 8)), 6)
-)
+SIDE, EDITS, PLANTED = (200, 100, 40) if LONG else (30, 4, 6)
 MOST, MOST_OF_SMALL = 1.0, 0.2
 """Seconds until a fault is seen, on the clock of a machine that has nothing else to do; of a processor here."""
 

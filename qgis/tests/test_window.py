@@ -62,7 +62,7 @@ def test_the_dock_lists_the_faults_of_an_edited_layer_largest_first(seen: Dict[s
     areas = [float(area) for _, area, _ in rows]
     assert areas == sorted(areas, reverse=True)
     assert set(rows[0][2].split(", ")) == set(STREET_CORNER)
-    assert "do not tile" in seen["said"]
+    assert "street: Which faults there are can't be told from the layer's noise: 1 gap, 1 overlap" in seen["said"]
 
 
 def test_a_click_zooms_to_the_fault(seen: Dict[str, Any]) -> None:
@@ -85,9 +85,9 @@ def test_a_verdict_is_of_one_layer_as_it_was_then(seen: Dict[str, Any]) -> None:
     said, grey = seen["other"]
     assert grey and said.startswith("This is of street, not of the layer that is chosen above.")
     said, grey = seen["back"]
-    assert not grey and said.startswith("street: The parcels do not tile the city: ")
+    assert not grey and said.startswith("street: Which faults there are can't be told")
     said, grey, grey_list = seen["stale"]
-    assert grey and grey_list and said.startswith("This is of street") and "street: The parcels do not tile" in said
+    assert grey and grey_list and said.startswith("This is of street") and "street: Which faults there are" in said
     assert seen["after undo"].startswith("Out of date: street was changed after this verdict.")
 
 

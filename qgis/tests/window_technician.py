@@ -110,7 +110,7 @@ def planted(dock: Any, layer: Any) -> List[str]:
             done.append(
                 f"{rule}: {dock.assistant.effect.text()} {layer.undoStack().index() - steps} step, left: {facts(dock)}"
             )
-    for _ in range(len(dock.faults)):
+    for _ in range(2 * len(dock.faults)):
         if dock.faults:
             done += [*mend(dock, dock.faults[0]), facts(dock)]
     return done
