@@ -32,6 +32,8 @@ from shapely.geometry import Point, Polygon, box
 
 CRS = "EPSG:25832"
 EAST, NORTH = 600_000.0, 5_500_000.0
+DOES = "Show in the list Link to it Print"
+"""What one can do with a parcel."""
 SECONDS_TO_OPEN, SECONDS_A_FRAME = 3.0, 0.1
 Row = Dict[str, Any]
 Places = NDArray[np.float64]
@@ -252,7 +254,7 @@ def test_tells_what_lies_at_a_click(browser: WebDriver, tmp_path: Path) -> None:
     opened(browser, report(tmp_path / "town.gpkg"))
     click_at(browser, EAST + 5, NORTH + 15)
     details = one(browser, "#details")
-    lines = ["Parcel 104", "100 m² (measured)", "at overlap, 4 m²", "zone W (measured)", "Show in the list"]
+    lines = ["Parcel 104", "100 m² (measured)", "at overlap, 4 m²", "zone W (measured)", DOES]
     assert details.text.split("\n")[1:] == lines
     one(browser, "#details a").click()
     assert browser.switch_to.active_element == buttons(browser)[3]
@@ -288,8 +290,8 @@ def test_names_zones_and_their_faults(browser: WebDriver, tmp_path: Path) -> Non
     assert "zone gaps: 1, zone overlaps: 1" in one(browser, "#summary").text
     assert "zone's border" in one(browser, "#legend").text
     for x, y, said in (
-        (5, 5, ["Parcel 101", "100 m² (measured)", f"zone {first} (measured)", "Show in the list"]),
-        (25, 5, ["Parcel 103", "100 m² (measured)", "zone E (measured)", "Show in the list"]),
+        (5, 5, ["Parcel 101", "100 m² (measured)", f"zone {first} (measured)", DOES]),
+        (25, 5, ["Parcel 103", "100 m² (measured)", "zone E (measured)", DOES]),
         (33, 5, ["Zone E", "402 m² (measured)"]),
     ):
         click_at(browser, EAST + x, NORTH + y)
@@ -369,7 +371,7 @@ def test_shows_text_of_data_as_text(browser: WebDriver, tmp_path: Path, number: 
     found = browser.execute_script("return document.getElementById('found').textContent")
     assert found.startswith(f"parcel {number}")
     assert browser.execute_script("return document.querySelector('#details b').textContent") == f"Parcel {number}"
-    assert browser.execute_script("return document.querySelectorAll('#list b b, #details b b, script').length") == 5
+    assert browser.execute_script("return document.querySelectorAll('#list b b, #details b b, script').length") == 6
     choose(browser, "faults")
     assert one(browser, "#more").text.startswith("Nothing to show")
 

@@ -55,6 +55,8 @@ class Refusal:
         return tr("{layer} do not tile the city: there is a fault at ({x}, {y}).", layer=layer, x=place[1], y=place[2])
 
 
+UNDECIDED = "undecided"
+"""The verdict on a layer whose corners lie beside borders at distances that have no clear edge."""
 NOT_TILING = "H2"
 """The code of a layer that has to tile, and does not."""
 
@@ -148,6 +150,11 @@ def notes_of(answer: Answer) -> List[str]:
         largest = f"{float(touched.get('largest_mm') or 0):.2f} mm"
         text = "{count} corners were made to touch, at most {largest} off; this closed {closed}."
         notes.append(tr(text, count=touched["corners"], largest=largest, closed=closed))
+    proposed = ((answer.get("basis") or {}).get("precision") or {}).get("proposed") or []
+    if answer.get("verdict") == UNDECIDED and proposed:
+        distances = ", ".join(f"{float(one['touch_mm']):g}" for one in proposed)
+        text = "Say in Check parcels how near to a border a corner touches it (advanced). These fit (mm): {distances}."
+        notes.append(tr(text, distances=distances))
     if skipped:
         numbers = ", ".join(str(row.get("number")) for row in skipped[:20]) + (", .." if len(skipped) > 20 else "")
         notes.append(tr("{count} features were skipped: {numbers}", count=len(skipped), numbers=numbers))
@@ -184,7 +191,9 @@ def verdict_of(answer: Answer) -> str:
     """The verdict in words, with the count of each kind of fault; of parcels and zones each its own."""
     layers = counts_by_layer(answer)
     counts = layers["parcels"]
-    if not any(counts.values()) and answer.get("verdict") != "open":
+    if answer.get("verdict") == UNDECIDED:
+        text = tr("Which faults there are can't be told from the layer's noise: {counts}.", counts=counts_text(counts))
+    elif not any(counts.values()) and answer.get("verdict") != "open":
         text = tr("The parcels tile the city: {counts}.", counts=counts_text(counts))
     elif any(counts[kind] for kind in ("gap", "overlap", "beyond", "sliver")):
         text = tr("The parcels do not tile the city: {counts}.", counts=counts_text(counts))

@@ -68,7 +68,7 @@ class Assistant(QDialog):
         layer, features = self.dock.checked, self.dock.features_at(fault)
         if layer is None or not features or fault.layer != "parcels":
             return []
-        return candidates(fault, shapes_of(layer, features), self.dock.number_of, near_of(layer))
+        return candidates(fault, shapes_of(layer, features), self.dock.number_of, near_of(layer, self.dock.touch))
 
     def show_fault(self, fault: Optional[Fault]) -> None:
         """Lists what can be done about a fault, and shows the first in the map."""

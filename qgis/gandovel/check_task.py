@@ -22,7 +22,8 @@ STEPS = 12
 
 @dataclass(frozen=True)
 class Fault:
-    """A fault of a layer: kind, numbers of the parcels there, area (m2; doubled in mm2, exact), shape."""
+    """A fault of a layer: kind, numbers of the parcels there, area (m2; doubled in mm2, exact), shape, and how many
+    millimetres the unit of that has."""
 
     kind: str
     layer: str
@@ -30,6 +31,7 @@ class Fault:
     area_m2: float
     area2_mm2: str
     shape: QgsGeometry
+    millimetres: float = 1000.0
 
     @cached_property
     def exact_area(self) -> Fraction:
@@ -39,7 +41,7 @@ class Fault:
     @cached_property
     def identity(self) -> str:
         """By what it is known again."""
-        return identity_of(self.kind, self.layer, self.area2_mm2, self.shape)
+        return identity_of(self.kind, self.layer, self.shape, self.millimetres)
 
 
 @dataclass(frozen=True)
@@ -152,7 +154,9 @@ class CheckTask(QgsTask):
             options["touch"] = repr(self.touch)
         answer: Answer = answers.report(parcels.path, out, options, folder, self)
         owners = parcels.features
-        faults = sorted(faults_in(out, owners), key=lambda it: (-it.exact_area, it.kind, it.numbers))
+        faults = sorted(
+            faults_in(out, owners, parcels.millimetres), key=lambda it: (-it.exact_area, it.kind, it.numbers)
+        )
         told = answers.verdict_of(answer), tuple(answers.notes_of(answer)), answer.get("verdict") == "tiles"
         touch = answer.get("touch_mm")
         return Outcome(
@@ -200,8 +204,8 @@ def numbers_of(text: str, known: Collection[str]) -> List[str]:
     return found
 
 
-def faults_in(path: str, known: Collection[str]) -> List[Fault]:
-    """The faults of a report on parcels of these numbers."""
+def faults_in(path: str, known: Collection[str], millimetres: float) -> List[Fault]:
+    """The faults of a report on parcels of these numbers, in a unit of so many millimetres."""
     found = []
     for kind in KINDS:
         layer = read_layer(path, LAYERS[kind])
@@ -209,5 +213,5 @@ def faults_in(path: str, known: Collection[str]) -> List[Fault]:
             numbers = numbers_of(str(feature["numbers"] or ""), known)
             area, doubled = float(feature["area_m2"]), str(feature["area2_mm2"])
             shape = QgsGeometry(feature.geometry())
-            found.append(Fault(kind, str(feature["layer"]), numbers, area, doubled, shape))
+            found.append(Fault(kind, str(feature["layer"]), numbers, area, doubled, shape, millimetres))
     return found

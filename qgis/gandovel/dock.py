@@ -312,7 +312,7 @@ class FaultDock(QDockWidget):
         features, layer = self.features_at(fault), self.checked
         if features is None or layer is None or fault.layer != "parcels":
             return None
-        return missing_corners(fault.shape, shapes_of(layer, features), near_of(layer))
+        return missing_corners(fault.shape, shapes_of(layer, features), near_of(layer, self.touch))
 
     def number_of(self, feature: int) -> str:
         """The number of a feature of the checked layer."""

@@ -15,6 +15,7 @@ from qgis.core import (
     QgsField,
     QgsFields,
     QgsProcessingFeatureSource,
+    QgsUnitTypes,
     QgsVectorFileWriter,
     QgsVectorLayer,
 )
@@ -53,6 +54,8 @@ class Written:
     features: Dict[str, List[int]] = field(default_factory=dict)
     rows: List[int] = field(default_factory=list)
     """The feature of each row."""
+    millimetres: float = 1000.0
+    """How many millimetres the unit of the coordinates has."""
 
     def concerned(self, refusal: Refusal) -> List[int]:
         """The features of the layer that a refusal is about: by their number, without one those that have none."""
@@ -81,8 +84,9 @@ def write_layer(
     path = str(Path(folder) / f"{name}.gpkg")
     number = _field_of(source.fields(), number, name)
     kept, fields, column = _columns(source.fields(), number, attributes)
-    writer = _writer(path, name, fields, source.wkbType(), _projection(source, name, unit), context)
-    written = Written(path, column)
+    crs = _projection(source, name, unit)
+    writer = _writer(path, name, fields, source.wkbType(), crs, context)
+    written = Written(path, column, millimetres=_millimetres(crs, source.sourceCrs() == crs, unit))
     at_number = source.fields().lookupField(number) if number else -1
     found: Dict[str, List[int]] = defaultdict(list)
     for row, feature in enumerate(every_feature(source, cancelled), 1):
@@ -140,6 +144,13 @@ def _projection(source: Any, name: str, unit: str) -> QgsCoordinateReferenceSyst
     return QgsCoordinateReferenceSystem.fromWkt(
         f'LOCAL_CS["plane in {title}",UNIT["{title}",{metres}],AXIS["Easting",EAST],AXIS["Northing",NORTH]]'
     )
+
+
+def _millimetres(crs: QgsCoordinateReferenceSystem, is_own: bool, unit: str) -> float:
+    """How many millimetres a unit of a projection has; of one that is not the source's own, the unit is told."""
+    if not is_own:
+        return UNITS[unit][1] * 1000.0
+    return float(QgsUnitTypes.fromUnitToUnitFactor(crs.mapUnits(), QgsUnitTypes.DistanceUnit.DistanceMillimeters))
 
 
 def _columns(fields: QgsFields, number: Optional[str], attributes: bool) -> tuple[List[int], QgsFields, str]:

@@ -127,4 +127,5 @@ def fault_of(record: Dict[str, Any]) -> Fault:
     """A fault as live checking tells it."""
     shape = QgsGeometry()
     shape.fromWkb(QByteArray(bytes.fromhex(record["shape"])))
-    return Fault(record["kind"], "parcels", record["numbers"], record["area_m2"], record["area2_mm2"], shape)
+    facts = record["area_m2"], record["area2_mm2"], shape, record["millimetres"]
+    return Fault(record["kind"], "parcels", record["numbers"], *facts)

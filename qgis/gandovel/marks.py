@@ -9,7 +9,8 @@ from qgis.PyQt.QtGui import QColor
 
 from .check_task import Fault
 
-COLOURS = {"gap": "#0072b2", "overlap": "#cc1e6e", "beyond": "#b22222", "open_gap": "#56b4e9", "sliver": "#e69f00"}
+COLOURS = {"gap": "#d55e00", "overlap": "#a3367a", "beyond": "#b22222", "open_gap": "#b07800", "sliver": "#6a3fb5"}
+"""Those of the report's map."""
 AROUND = 3.0
 """How much more than the fault's own box is shown."""
 LEAST = 5.0

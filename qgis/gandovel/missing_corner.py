@@ -28,9 +28,10 @@ class Missing:
     agreed: bool = True
 
 
-def near_of(layer: QgsVectorLayer) -> float:
-    """`NEAR_MM` in the layer's unit; without a projection the unit is taken as a metre."""
-    return float(NEAR_MM * millimetre_of(layer))
+def near_of(layer: QgsVectorLayer, touch: Optional[float] = None) -> float:
+    """`NEAR_MM`, or how near (mm) to a border a corner touches it where that is more, in the layer's unit; without a
+    projection the unit is taken as a metre."""
+    return float(max(NEAR_MM, touch or 0.0) * millimetre_of(layer))
 
 
 def millimetre_of(layer: QgsVectorLayer) -> float:

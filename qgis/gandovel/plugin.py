@@ -1,7 +1,7 @@
 """The plugin: its provider of algorithms, and in a window its dock."""
 from __future__ import annotations
 
-from typing import TYPE_CHECKING, Any, Optional
+from typing import TYPE_CHECKING, Any, List, Optional
 
 from qgis.core import QgsApplication
 from qgis.PyQt.QtCore import Qt
@@ -13,6 +13,7 @@ from .words import tr
 
 if TYPE_CHECKING:
     from .dock import FaultDock
+    from .served.dock import RegisterDock
 
 
 class GandovelPlugin:
@@ -22,7 +23,8 @@ class GandovelPlugin:
         self.iface = iface
         self.provider: Optional[GandovelProvider] = None
         self.dock: Optional[FaultDock] = None
-        self.action: Any = None
+        self.register: Optional[RegisterDock] = None
+        self.actions: List[Any] = []
 
     def initProcessing(self) -> None:
         """Adds the provider; without a window that is all."""
@@ -32,28 +34,36 @@ class GandovelPlugin:
             QgsApplication.processingRegistry().addProvider(self.provider)
 
     def initGui(self) -> None:
-        """Adds the provider, the dock, and the action that shows it."""
+        """Adds the provider, the docks, and the actions that show them."""
         from .dock import FaultDock
+        from .served.dock import RegisterDock
 
         self.initProcessing()
-        self.dock = FaultDock(self.iface)
-        self.iface.addDockWidget(Qt.DockWidgetArea.RightDockWidgetArea, self.dock)
-        self.dock.hide()
-        self.action = self.dock.toggleViewAction()
-        self.action.setText(tr("Faults of parcels"))
-        self.action.setIcon(QIcon(str(ICON)))
-        self.iface.addVectorToolBarIcon(self.action)
-        self.iface.addPluginToVectorMenu("Gandovel", self.action)
+        self.dock, self.register = FaultDock(self.iface), RegisterDock(self.iface)
+        self._add(self.dock, tr("Faults of parcels"))
+        self._add(self.register, tr("Live register"))
+
+    def _add(self, dock: Any, text: str) -> None:
+        """Adds a dock, hidden, and the action that shows it."""
+        self.iface.addDockWidget(Qt.DockWidgetArea.RightDockWidgetArea, dock)
+        dock.hide()
+        action = dock.toggleViewAction()
+        action.setText(text)
+        action.setIcon(QIcon(str(ICON)))
+        self.iface.addVectorToolBarIcon(action)
+        self.iface.addPluginToVectorMenu("Gandovel", action)
+        self.actions.append(action)
 
     def unload(self) -> None:
         """Takes all of it back."""
         if self.provider is not None:
             QgsApplication.processingRegistry().removeProvider(self.provider)
             self.provider = None
-        if self.dock is not None:
-            self.dock.forget()
-            self.iface.removePluginVectorMenu("Gandovel", self.action)
-            self.iface.removeVectorToolBarIcon(self.action)
-            self.iface.removeDockWidget(self.dock)
-            self.dock.deleteLater()
-            self.dock = None
+        for dock, action in zip((self.dock, self.register), self.actions):
+            if dock is not None:
+                dock.forget()
+                self.iface.removePluginVectorMenu("Gandovel", action)
+                self.iface.removeVectorToolBarIcon(action)
+                self.iface.removeDockWidget(dock)
+                dock.deleteLater()
+        self.dock, self.register, self.actions = None, None, []

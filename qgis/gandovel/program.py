@@ -42,8 +42,10 @@ def no_package() -> str:
 def no_program() -> str:
     """What is said where there is no program."""
     return tr(
-        "The program parcel_tool was not found: install it from a release, or name it in {where}.",
+        "The program parcel_tool was not found: install it from a release, or name it in {where}. The plugin has none "
+        "of its own for {platform}: make build makes one from the sources.",
         where=WHERE,
+        platform=BUNDLED.parent.name,
     )
 
 

@@ -20,8 +20,8 @@ OF_MEASURED = 4
 """How many times as far off the corners of an open gap may be."""
 LEAST_SHARE = 0.1
 """A neighbour whose border with a gap is shorter than this share of the longest is not proposed."""
-MOST_OF_FAULT = 1.01
-"""How much of a fault's area moving one corner may change at most: no more than the fault."""
+MOST_OF_FAULT, LEAST_OF_FAULT = 1.01, 0.05
+"""How much of a fault's area moving one corner may change at most: no more than the fault. And any repair at least."""
 Shapes = Dict[int, QgsGeometry]
 ODD, MISSING, LONGEST, GIVE, KEEP = "odd", "missing", "longest", "give", "keep"
 """The rules of candidates: what "all of this kind" repeats."""
@@ -55,19 +55,26 @@ def candidates(fault: Fault, shapes: Shapes, names: Callable[[int], str], near: 
         changed = {missing.feature: with_corners(shapes[missing.feature], missing.corners)}
         entry = Candidate(MISSING, title, changed, sqrt(missing.farthest))
         found.insert(0 if missing.agreed else len(found), entry)
-    found += _keeping(fault, shapes, names) if _covered_twice(fault, shapes) else _giving(fault, shapes, names, near)
-    return [one for one in found if _is_sound(one, shapes)]
+    found += (
+        _keeping(fault, shapes, names, near) if _covered_twice(fault, shapes) else _giving(fault, shapes, names, near)
+    )
+    return [one for one in found if _is_sound(one, shapes, LEAST_OF_FAULT * fault.shape.area())]
 
 
-def _is_sound(one: Candidate, shapes: Shapes) -> bool:
-    """Whether a candidate changes something, and leaves shapes valid; notes the areas."""
+def _is_sound(one: Candidate, shapes: Shapes, least: float) -> bool:
+    """Whether a candidate changes at least so much, and leaves shapes valid; notes the areas."""
     one.changes = {at: shape for at, shape in one.changes.items() if not shape.equals(shapes[at])}
     for feature, shape in one.changes.items():
         before = shapes[feature]
         if shape.isEmpty() or not shape.isGeosValid() or _parts(shape) != _parts(before):
             return False
         one.areas.append((feature, before.area(), shape.area()))
-    return bool(one.changes)
+    return sum(_changed_area(shape, shapes[at]) for at, shape in one.changes.items()) >= least and bool(one.changes)
+
+
+def _changed_area(one: QgsGeometry, other: QgsGeometry) -> float:
+    """How much is in one of two shapes alone."""
+    return float(one.symDifference(other).area())
 
 
 def _parts(shape: QgsGeometry) -> int:
@@ -96,7 +103,7 @@ def _odd_corner(fault: Fault, shapes: Shapes, names: Callable[[int], str], near:
                 if best is not None and far >= best.moves:
                     continue
                 changed = _moved(shape, corner, _exact(others, place, near))
-                if abs(changed.area() - shape.area()) <= MOST_OF_FAULT * fault.shape.area():
+                if changed.isGeosValid() and _changed_area(changed, shape) <= MOST_OF_FAULT * fault.shape.area():
                     title = tr(
                         "Move the odd corner of parcel {parcel} to where the others agree", parcel=names(feature)
                     )
@@ -162,8 +169,55 @@ def _giving(fault: Fault, shapes: Shapes, names: Callable[[int], str], near: flo
             length=f"{borders[feature]:.2f}",
         )
         rule = GIVE if found else LONGEST
-        found.append(Candidate(rule, title, {feature: _like(shapes[feature], _areas_of(target.combine(hole)))}))
+        given = _cleaned(_areas_of(target.combine(hole)), feature, shapes, near)
+        found.append(Candidate(rule, title, {feature: _like(shapes[feature], given)}))
     return found
+
+
+def _cleaned(changed: QgsGeometry, feature: int, shapes: Shapes, near: float) -> QgsGeometry:
+    """The changed shape of a feature, whose new corners are the very ones of its neighbours where they are near, without
+    needles: a part that is narrower than what touches would be taken for one line, and bend what it touches."""
+    kept = QgsGeometry(changed)
+    others = [shape for at, shape in shapes.items() if at != feature]
+    for at, vertex in enumerate(list(kept.vertices())):
+        if _is_new(vertex, shapes[feature]):
+            kept.moveVertex(_exact(others, QgsPointXY(vertex), near), at)
+    _delete(kept, lambda at: _is_new(kept.vertexAt(at), shapes[feature]) and _is_double(kept, at, near))
+    _delete(kept, lambda at: _is_needle(kept, at, near))
+    return kept
+
+
+def _is_new(corner: QgsPoint, shape: QgsGeometry) -> bool:
+    """Whether a corner is none of a shape's."""
+    _, _, _, _, square = shape.closestVertex(QgsPointXY(corner))
+    return bool(square > 0)
+
+
+def _delete(shape: QgsGeometry, is_amiss: Callable[[int], bool]) -> None:
+    """Deletes corners that are amiss, one after the other."""
+    at = 0
+    while at < shape.constGet().nCoordinates():
+        at = 0 if is_amiss(at) and shape.deleteVertex(at) else at + 1
+
+
+def _is_double(shape: QgsGeometry, at: int, near: float) -> bool:
+    """Whether a corner is beside the one before it, or after."""
+    beside = [shape.vertexAt(it) for it in shape.adjacentVertices(at) if it >= 0]
+    return any(shape.vertexAt(at).distance(it) <= near for it in beside)
+
+
+def _is_needle(shape: QgsGeometry, at: int, near: float) -> bool:
+    """Whether the sides of a corner run back on one another."""
+    before, after = shape.adjacentVertices(at)
+    if before < 0 or after < 0:
+        return False
+    tip, one, other = (shape.vertexAt(it) for it in (at, before, after))
+    if (one.x() - tip.x()) * (other.x() - tip.x()) + (one.y() - tip.y()) * (other.y() - tip.y()) <= 0:
+        return False
+    if min(tip.distance(one), tip.distance(other)) <= near:
+        return False
+    sides = [(one, QgsGeometry.fromPolyline([tip, other])), (other, QgsGeometry.fromPolyline([tip, one]))]
+    return any(line.distance(QgsGeometry(end.clone())) <= near for end, line in sides)
 
 
 def _border(hole: QgsGeometry, shape: QgsGeometry, near: float) -> float:
@@ -183,12 +237,13 @@ def _with_touching(shape: QgsGeometry, corners: Sequence[QgsPoint], near: float)
     return changed
 
 
-def _keeping(fault: Fault, shapes: Shapes, names: Callable[[int], str]) -> List[Candidate]:
+def _keeping(fault: Fault, shapes: Shapes, names: Callable[[int], str], near: float) -> List[Candidate]:
     """An overlap to each of the parcels that cover it: the others lose what is that parcel's."""
-    found = []
+    found: List[Candidate] = []
     for keeper in sorted(shapes, key=lambda at: -shapes[at].area()):
         others = {at: shape for at, shape in shapes.items() if at != keeper}
-        changed = {at: _like(shape, _areas_of(shape.difference(shapes[keeper]))) for at, shape in others.items()}
+        changed = {at: _areas_of(shape.difference(shapes[keeper])) for at, shape in others.items()}
+        changed = {at: _like(shapes[at], _cleaned(shape, at, shapes, near)) for at, shape in changed.items()}
         title = tr("Parcel {parcel} keeps it", parcel=names(keeper))
         found.append(Candidate(KEEP, title, changed))
     return found

@@ -124,3 +124,37 @@ def make_street(path: Path) -> None:
     plots["12"] = box(45, 60, 90, 75)
     frame = gpd.GeoDataFrame({"parcel_no": list(plots)}, geometry=[turned(it) for it in plots.values()], crs=CRS)
     frame.to_file(path, driver="GPKG", layer="street")
+
+
+def make_town(path: Path, rows: int, columns: int, planted: int) -> Dict[str, int]:
+    """Writes rows of parcels whose sides do not meet, in whole millimetres, with so many faults: gaps and overlaps 30 cm
+    wide, and lower parcels that meet 40 cm short of the upper one, which has no corner there. How many of each kind."""
+    wide, deep = 17.0, 0.4
+    cuts = [
+        [0.0, *(wide * (at + 0.3 * ((row * 7 + at * 3) % 5) / 5) for at in range(1, columns)), wide * columns]
+        for row in range(rows)
+    ]
+    every, counts = max(1, rows * columns // max(1, planted)), {"gap": 0, "overlap": 0}
+    shapes: List[Polygon] = []
+    low: Dict[int, float] = {}
+    for row in range(rows):
+        for column, (left, right) in enumerate(zip(cuts[row], cuts[row][1:])):
+            at, top, bottom = len(shapes), (row + 1) * HIGH, row * HIGH
+            corners = [(left, bottom), (right, bottom), (right, top - low.pop(at, 0.0)), (left, top)]
+            inside = 0 < column < columns - 2 and 0 < row < rows - 1
+            if at - 1 in low:  # the neighbour before meets this one short of the row above
+                corners[3] = (left, top - low.pop(at - 1))
+            if inside and planted and at % every == every // 2:
+                kind = (at // every) % 3
+                if kind == 2:
+                    corners[2] = (right, top - deep)
+                    low[at] = deep
+                else:
+                    shift = -0.3 if kind == 0 else 0.3
+                    corners[1:3] = [(right + shift, bottom), (right + shift, top)]
+                counts["overlap" if kind == 1 else "gap"] += 1
+            shapes.append(turned(Polygon(corners)))
+    whole = [Polygon([(round(x, 3), round(y, 3)) for x, y in it.exterior.coords[:-1]]) for it in shapes]
+    numbers = [f"{at // columns + 1}/{at % columns + 1}" for at in range(len(shapes))]
+    gpd.GeoDataFrame({"parcel_no": numbers}, geometry=whole, crs=CRS).to_file(path, driver="GPKG", layer=path.stem)
+    return counts

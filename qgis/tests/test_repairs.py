@@ -2,7 +2,10 @@
 from __future__ import annotations
 
 import csv
+import json
+import os
 import sqlite3
+import subprocess
 from pathlib import Path
 from typing import Any, Dict, List, Tuple
 
@@ -160,3 +163,57 @@ def test_a_register_of_another_format_is_beside_the_layer(qgis: Any, tmp_path: P
     assert QgsVectorLayer(f"{path}|layername=gandovel_faults", "register", "ogr").featureCount() == 1
     with sqlite3.connect(path) as connection:
         assert connection.execute("PRAGMA integrity_check").fetchone() == ("ok",)
+
+
+def test_a_fault_has_the_identity_that_known_takes(qgis: Any, tmp_path: Path) -> None:
+    """Of all kinds, in metres and in feet: `--known` of what the package prints knows what the dock lists."""
+    from gandovel.check_task import CheckTask
+    from qgis.core import QgsVectorLayer
+
+    lens = Polygon([(0, 40), (9, 40), (9, 50), (0, 50)], [[(3, 43), (3, 46), (6, 46), (6, 43)]])
+    shapes = [*STRIP, box(0, 20, 3.3, 30), box(3, 20, 9, 30), box(0, 30, 9, 40), lens]
+    for crs in (25832, 2263):
+        path = written(tmp_path / f"{crs}.gpkg", shapes, crs=crs, parcel_no=[str(at) for at in range(len(shapes))])
+        found: List[Any] = []
+        layer = QgsVectorLayer(str(path), "parcels", "ogr")
+        task = CheckTask(layer, "parcel_no", None, "", found.append)
+        assert task.run() and task.outcome.refused == ""
+        command = [os.environ["GANDOVEL_PYTHON"], "-m", "gandovel", "check", path, "--number", "parcel_no", "--json"]
+        printed = subprocess.run(command, capture_output=True, text=True, check=False)
+        told = {fault["id"]: fault["kind"] for fault in json.loads(printed.stdout)["faults"]}
+        assert {fault.identity: fault.kind for fault in task.outcome.faults} == told and len(told) >= 3
+
+
+def test_the_faults_of_a_town_are_mended_by_a_rule_for_each_kind(qgis: Any, tmp_path: Path) -> None:
+    """Gaps to the neighbour with the longest border, overlaps to either, where corners lie beside borders by rounding:
+    two steps, no sliver is left of them, and the program says that it tiles."""
+    from gandovel.repairs import apply_all
+    from layers_made import make_town
+    from qgis.core import QgsVectorLayer
+
+    counts = make_town(tmp_path / "town.gpkg", 12, 12, 12)
+    layer = QgsVectorLayer(str(tmp_path / "town.gpkg"), "town", "ogr")
+    assert layer.startEditing() and min(counts.values()) > 3
+    faults = faults_of(layer)
+    for kind, rule in (("gap", "longest"), ("overlap", "keep")):
+        some = [fault for fault in faults if fault.kind == kind]
+        assert apply_all(layer, rule, kind, some, lambda fault: candidates_of(layer, fault)) == len(some) > 2
+    assert layer.undoStack().count() == 2
+    assert run("checkparcels", INPUT=layer, NUMBER_FIELD="parcel_no", FAULTS=M)["VERDICT"] == "tiles"
+
+
+def test_a_corner_that_lies_on_a_border_but_for_rounding_is_not_missing(qgis: Any) -> None:
+    """Half a millimetre off, beside a gap: to put it in would mend nothing, so it is not proposed; nor is a move that
+    slides a corner along its own border."""
+    from gandovel.check_task import Fault
+    from gandovel.repairs import candidates
+    from qgis.core import QgsGeometry
+
+    upper = Polygon([(0, 10), (20, 10), (20, 20), (0, 20)])
+    shapes = [box(0, 0, 9.7, 10.0005), Polygon([(10, 0), (20, 0), (20, 10), (10, 10.0005)]), upper]
+    them = {at: QgsGeometry.fromWkt(shape.wkt) for at, shape in enumerate(shapes, 1)}
+    gap = QgsGeometry.fromWkt(Polygon([(9.7, 0), (10, 0), (10, 10), (9.7, 10)]).wkt)
+    found = candidates(Fault("gap", "parcels", ["1", "2", "3"], 3.0, "6000000", gap), them, str, 0.0015)
+    assert [one.rule for one in found] == ["longest", "give"]
+    for one in found:
+        assert sum(abs(after - before) for _, before, after in one.areas) == pytest.approx(3.0, abs=0.01)

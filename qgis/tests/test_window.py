@@ -2,54 +2,24 @@
 from __future__ import annotations
 
 import csv
-import json
-import os
-import shutil
-import subprocess
-import time
-from pathlib import Path
 from typing import Any, Dict, Iterator
 
 import pytest
-from conftest import ROOT, environment, make_zip, metadata
+from conftest import ROOT, make_zip, metadata
+from driving import PROFILE, SETTINGS, driven, screen
 from layers_made import STREET_AREAS, STREET_CORNER, make_street
 from models import OUTPUTS
 
-HERE = Path(__file__).resolve().parent
 MOST_SECONDS_OF_MANY = 2.0
 MOST_SECONDS_OF_LIVE, MOST_OF_ARITHMETIC = 20.0, 0.5
 """From an edit to the list, on a machine that others use, too; and of a processor for the arithmetic."""
-PROFILE = "profiles/default/QGIS/QGIS3.ini"
-SETTINGS = """[PythonPlugins]
-processing=true
-GdalTools=false
-MetaSearch=false
-db_manager=false
-grassprovider=false
-otbprovider=false
-sagaprovider=false
-
-[qgis]
-checkVersion=false
-newsFeed\\disabled=true
-
-[app]
-projections\\unknownCrsBehavior=NoAction
-"""
 
 
 @pytest.fixture(scope="module")
 def display() -> Iterator[str]:
     """An Xvfb of its own."""
-    reading, writing = os.pipe()
-    words = ["Xvfb", "-displayfd", str(writing), "-screen", "0", "1280x800x24", "-nolisten", "tcp"]
-    with subprocess.Popen(words, pass_fds=[writing], stderr=subprocess.DEVNULL) as server:
-        os.close(writing)
-        with os.fdopen(reading) as told:
-            number = told.readline().strip()
-        assert number, "Xvfb did not start"
-        yield f":{number}"
-        server.terminate()
+    with screen() as number:
+        yield number
 
 
 @pytest.fixture(scope="module")
@@ -64,25 +34,7 @@ def seen(display: str, tmp_path_factory: pytest.TempPathFactory) -> Dict[str, An
     settings.write_text(SETTINGS)
     # QGIS looks for this folder when it starts: where it was not there then, a plugin is found after a restart alone.
     (folder / "profiles/default/python/plugins").mkdir(parents=True)
-    variables = environment(folder)
-    variables.pop("QGIS_CUSTOM_CONFIG_PATH")
-    variables.update(
-        DISPLAY=display, QT_QPA_PLATFORM="xcb", GANDOVEL_WINDOW=str(folder), GANDOVEL_WINDOW_CODE=str(HERE)
-    )
-    variables["LIBGL_ALWAYS_SOFTWARE"] = "1"
-    words = ["qgis", "--nologo", "--noversioncheck", "--profiles-path", str(folder), "--code", str(HERE / "window.py")]
-    begun = time.monotonic()
-    ended = subprocess.run(words, env=variables, capture_output=True, text=True, timeout=900, check=False)
-    path = folder / "seen.json"
-    assert path.is_file(), f"QGIS ended after {time.monotonic() - begun:.0f} s: {ended.stderr[-2000:]}"
-    found: Dict[str, Any] = json.loads(path.read_text())
-    assert "failed" not in found, found["failed"]
-    keep = os.environ.get("GANDOVEL_PICTURES")
-    if keep:
-        Path(keep).mkdir(parents=True, exist_ok=True)
-        for image in folder.glob("*.png"):
-            shutil.copy(image, keep)
-    return found
+    return driven(display, folder, "window.py")
 
 
 def test_the_zip_is_installed_in_a_fresh_profile(seen: Dict[str, Any]) -> None:
@@ -110,7 +62,7 @@ def test_the_dock_lists_the_faults_of_an_edited_layer_largest_first(seen: Dict[s
     areas = [float(area) for _, area, _ in rows]
     assert areas == sorted(areas, reverse=True)
     assert set(rows[0][2].split(", ")) == set(STREET_CORNER)
-    assert "do not tile" in seen["said"]
+    assert "street: Which faults there are can't be told from the layer's noise: 1 gap, 1 overlap" in seen["said"]
 
 
 def test_a_click_zooms_to_the_fault(seen: Dict[str, Any]) -> None:
@@ -133,9 +85,9 @@ def test_a_verdict_is_of_one_layer_as_it_was_then(seen: Dict[str, Any]) -> None:
     said, grey = seen["other"]
     assert grey and said.startswith("This is of street, not of the layer that is chosen above.")
     said, grey = seen["back"]
-    assert not grey and said.startswith("street: The parcels do not tile the city: ")
+    assert not grey and said.startswith("street: Which faults there are can't be told")
     said, grey, grey_list = seen["stale"]
-    assert grey and grey_list and said.startswith("This is of street") and "street: The parcels do not tile" in said
+    assert grey and grey_list and said.startswith("This is of street") and "street: Which faults there are" in said
     assert seen["after undo"].startswith("Out of date: street was changed after this verdict.")
 
 

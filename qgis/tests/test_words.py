@@ -152,6 +152,15 @@ def test_the_zip_brings_its_side_of_the_package_and_the_program(qgis: Any, tmp_p
     assert ended.returncode == 0, ended.stderr
     assert ended.stdout.startswith(str(tmp_path / "plugins/gandovel/bin/linux-x86_64/parcel_tool"))
     assert "no gaps, no overlaps" in ended.stdout
+    zones = written(tmp_path / "zones.gpkg", [box(0, -10, 15, 20), box(15, -10, 20, 20)], zone=["W", "E"])
+    words = ["-m", "gandovel", "report", two(tmp_path), "--number", "parcel_no", "--zones", zones]
+    code = (
+        "import sys; sys.path.insert(0, sys.argv[1]); from gandovel import program; import subprocess; "
+        "sys.exit(subprocess.run([program.find_python(), *sys.argv[2:]], env=program.environment(), cwd='/').returncode)"
+    )
+    words = ["/usr/bin/python3", "-c", code, tmp_path / "plugins", *words, "--out", tmp_path / "report.gpkg"]
+    ended = subprocess.run(words, env=environment, capture_output=True, text=True, check=False)
+    assert ended.returncode == 0 and "3 parcels split" in ended.stdout, ended.stdout + ended.stderr
 
 
 def test_all_words_are_there_in_each_language(tmp_path: Path) -> None:
@@ -194,3 +203,43 @@ def test_help_buttons_lead_to_the_page() -> None:
     code = "".join(path.read_text() for path in (ROOT / "qgis/gandovel").rglob("*.py"))
     links = set(expressions.findall(r'(?:show_help|help_url)\("([a-z-]+)"\)', code))
     assert len(links) >= 3 and links <= heads
+
+
+def test_faults_have_the_colours_of_the_map(qgis: Any) -> None:
+    """Of every kind, in the dock and in the layer of faults: those of the report's map."""
+    from gandovel.answers import KINDS
+    from gandovel.marks import COLOURS
+
+    page = (ROOT / "python/src/gandovel/out/map_page/page.css").read_text().split("@media")[0]
+    style = (ROOT / "qgis/gandovel/styles/faults.qml").read_text()
+    categories = dict(re.findall(r'category value="(\w+)" label="[^"]+" symbol="(\d)"', style))
+    fills = dict(re.findall(r'name="(\d)" alpha.*?k="color" v="(\d+,\d+,\d+),255"', style, re.DOTALL))
+    assert set(categories) == set(COLOURS) == set(KINDS)
+    for kind in KINDS:
+        found = re.search(rf"--{kind.replace('_', '-')}: (#[0-9a-f]{{6}})", page)
+        assert found is not None and found[1] == COLOURS[kind]
+        red, green, blue = (int(COLOURS[kind][at : at + 2], 16) for at in (1, 3, 5))
+        assert fills[categories[kind]] == f"{red},{green},{blue}"
+
+
+def test_words_of_the_dock_are_none_of_the_shell(qgis: Any) -> None:
+    """No text that a user of the window sees has an option of a command, or a command that installs."""
+    from gandovel import words
+
+    texts = [text for text in words.translations("en") if not text.startswith("<p>")]
+    assert len(texts) > 150
+    amiss = [text for text in texts if re.search(r"(^|\s)--\w|\bpip\b|\$ |\bstdout\b|\bexit status\b", text)]
+    assert amiss == []
+
+
+def test_an_undecided_verdict_is_said_to_be_one(qgis: Any) -> None:
+    """With the distances that the layer's own measure proposes; and not that the parcels do not tile."""
+    from gandovel.answers import notes_of, verdict_of
+
+    precision = {"proposed": [{"touch_mm": 1.5, "touching": 3}, {"touch_mm": 12.0, "touching": 9}]}
+    answer = {"verdict": "undecided", "counts": {"gaps": 2}, "basis": {"precision": precision}}
+    assert verdict_of(answer) == (
+        "Which faults there are can't be told from the layer's noise: 2 gaps, no overlaps, no open gaps, no slivers."
+    )
+    assert [note for note in notes_of(answer) if note.endswith("These fit (mm): 1.5, 12.")]
+    assert not [note for note in notes_of({**answer, "verdict": "does not tile"}) if "These fit" in note]

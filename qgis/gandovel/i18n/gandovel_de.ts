@@ -20,6 +20,10 @@
         <translation>1 Eckpunkt</translation>
     </message>
     <message>
+        <source>1 edit of the list was not sent.</source>
+        <translation>1 Änderung der Liste wurde nicht gesendet.</translation>
+    </message>
+    <message>
         <source>1 gap</source>
         <translation>1 Lücke</translation>
     </message>
@@ -72,12 +76,24 @@
         <translation>&lt;p&gt;Welche Flurstücke in welchen Zonen liegen, auch wo die Layer nicht lückenlos decken.&lt;/p&gt;&lt;p&gt;&lt;b&gt;Geteilte Flurstücke&lt;/b&gt; sind die in zwei oder mehr Zonen, mit den Namen der Zonen. &lt;b&gt;Teile&lt;/b&gt; sind, was jedes in jeder Zone hat, mit der Fläche. Die &lt;b&gt;verbundene Tabelle&lt;/b&gt; hat eine Zeile je Flurstück und Zone, die sich überlappen, mit den Attributen beider. &lt;b&gt;Paare&lt;/b&gt; sind die Tabelle ohne Attribute. &lt;b&gt;Fehler&lt;/b&gt; sind die der Flurstücke und der Zonen.&lt;/p&gt;&lt;p&gt;Dass Flurstück und Zone sich überlappen, ist exakt; die sich nur berühren, werden nicht genannt. Wo beide Layer lückenlos decken, sind Flächen bewiesen: Die doppelte Fläche in mm², &lt;i&gt;area2_mm2&lt;/i&gt;, weicht höchstens um 1 ab, und die Flächen eines Flurstücks ergeben seine eigene. Sonst sind sie gemessen (&lt;i&gt;area_how&lt;/i&gt;). Wo ein Flurstück keine Zone überlappt oder jenseits der Stadt liegt, hat die Tabelle eine Zone, die an einem Punkt in ihm gemessen ist, oder keine (&lt;i&gt;zone_how&lt;/i&gt;).&lt;/p&gt;</translation>
     </message>
     <message>
+        <source>A border bends at this corner, or a third one ends there.</source>
+        <translation>In dieser Ecke knickt eine Grenze ab, oder eine dritte endet dort.</translation>
+    </message>
+    <message>
         <source>A border moves by {far} at most.</source>
         <translation>Eine Grenze verschiebt sich um höchstens {far}.</translation>
     </message>
     <message>
         <source>A corner this near to a border touches it (mm)</source>
         <translation>Ein Eckpunkt so nahe an einer Grenze berührt sie (mm)</translation>
+    </message>
+    <message>
+        <source>A parcel of this edit was changed meanwhile: look at the map, and draw it again.</source>
+        <translation>Ein Flurstück dieser Änderung wurde inzwischen geändert: Sehen Sie auf die Karte, und zeichnen Sie sie noch einmal.</translation>
+    </message>
+    <message>
+        <source>A part would have no area, or the path leaves the parcel.</source>
+        <translation>Ein Teil hätte keine Fläche, oder der Weg verlässt das Flurstück.</translation>
     </message>
     <message>
         <source>A register of faults needs a layer in a file: save this one as a GeoPackage first.</source>
@@ -90,6 +106,14 @@
     <message>
         <source>Accepted, with your reason, in the register of faults.</source>
         <translation>Mit Ihrer Begründung im Fehlerverzeichnis angenommen.</translation>
+    </message>
+    <message>
+        <source>Add to the list</source>
+        <translation>Auf die Liste setzen</translation>
+    </message>
+    <message>
+        <source>Address</source>
+        <translation>Adresse</translation>
     </message>
     <message>
         <source>After a check, each parcel that you change is checked at once, with its neighbours alone.</source>
@@ -200,12 +224,48 @@
         <translation>Datei mit Änderungen</translation>
     </message>
     <message>
+        <source>Click a border.</source>
+        <translation>Klicken Sie auf eine Grenze.</translation>
+    </message>
+    <message>
+        <source>Click a corner.</source>
+        <translation>Klicken Sie auf eine Ecke.</translation>
+    </message>
+    <message>
+        <source>Click the neighbour.</source>
+        <translation>Klicken Sie auf den Nachbarn.</translation>
+    </message>
+    <message>
+        <source>Click the parcel, and then its border where the new corner comes.</source>
+        <translation>Klicken Sie auf das Flurstück, dann auf seine Grenze, wo die neue Ecke hinkommt.</translation>
+    </message>
+    <message>
+        <source>Click the parcel, and then the corner that goes, where the borders go straight on.</source>
+        <translation>Klicken Sie auf das Flurstück, dann auf die Ecke, die wegfällt, wo die Grenzen gerade weitergehen.</translation>
+    </message>
+    <message>
+        <source>Click the parcel, and then the neighbour that becomes one with it.</source>
+        <translation>Klicken Sie auf das Flurstück, dann auf den Nachbarn, der mit ihm eins wird.</translation>
+    </message>
+    <message>
+        <source>Click the parcel, the neighbour, and then the corners of the new border between its two ends.</source>
+        <translation>Klicken Sie auf das Flurstück, den Nachbarn, dann auf die Ecken der neuen Grenze zwischen ihren beiden Enden.</translation>
+    </message>
+    <message>
+        <source>Click the parcel, then the corner where the cut begins, its corners, and the corner where it ends.</source>
+        <translation>Klicken Sie auf das Flurstück, dann auf die Ecke, in der der Schnitt beginnt, auf seine Ecken, und auf die, in der er endet.</translation>
+    </message>
+    <message>
         <source>Compare with a register's session</source>
         <translation>Mit der Sitzung eines Registers vergleichen</translation>
     </message>
     <message>
         <source>Compared parcels</source>
         <translation>Verglichene Flurstücke</translation>
+    </message>
+    <message>
+        <source>Connect</source>
+        <translation>Verbinden</translation>
     </message>
     <message>
         <source>Corners disagree here, so nothing was changed in {layer}: parcels {numbers}. Repair shows what can be done.</source>
@@ -220,8 +280,16 @@
         <translation>Arbeitsplatz: der Pfad seiner Pipes, ohne .in oder .out</translation>
     </message>
     <message>
+        <source>Disconnect</source>
+        <translation>Trennen</translation>
+    </message>
+    <message>
         <source>Do not save new faults</source>
         <translation>Neue Fehler nicht speichern</translation>
+    </message>
+    <message>
+        <source>Drop</source>
+        <translation>Verwerfen</translation>
     </message>
     <message>
         <source>Edited parcels</source>
@@ -268,6 +336,14 @@
         <translation>Gandovel: exakte Prüfung von Flurstückslayern</translation>
     </message>
     <message>
+        <source>Gandovel: posting edits</source>
+        <translation>Gandovel: Änderungen werden gesendet</translation>
+    </message>
+    <message>
+        <source>Gandovel: reading the register</source>
+        <translation>Gandovel: das Register wird gelesen</translation>
+    </message>
+    <message>
         <source>Gap</source>
         <translation>Lücke</translation>
     </message>
@@ -292,6 +368,10 @@
         <translation>Hilfe</translation>
     </message>
     <message>
+        <source>Insert a corner</source>
+        <translation>Ecke einfügen</translation>
+    </message>
+    <message>
         <source>Insert missing corners</source>
         <translation>Fehlende Eckpunkte einfügen</translation>
     </message>
@@ -308,6 +388,10 @@
         <translation>Fehlenden Eckpunkt einfügen</translation>
     </message>
     <message>
+        <source>It can be posted.</source>
+        <translation>Es kann gesendet werden.</translation>
+    </message>
+    <message>
         <source>Joined table</source>
         <translation>Verbundene Tabelle</translation>
     </message>
@@ -316,8 +400,24 @@
         <translation>Ein Fehlerverzeichnis führen</translation>
     </message>
     <message>
+        <source>Keep as a draft</source>
+        <translation>Als Entwurf behalten</translation>
+    </message>
+    <message>
+        <source>Kept as a draft. It would bring {areas}.</source>
+        <translation>Als Entwurf behalten. Er brächte {areas}.</translation>
+    </message>
+    <message>
+        <source>Kept until QGIS is closed. Without TLS it goes in clear text.</source>
+        <translation>Wird behalten, bis QGIS geschlossen wird. Ohne TLS geht es im Klartext.</translation>
+    </message>
+    <message>
         <source>Kind</source>
         <translation>Art</translation>
+    </message>
+    <message>
+        <source>Last: {kind} by {who}.</source>
+        <translation>Zuletzt: {kind} durch {who}.</translation>
     </message>
     <message>
         <source>Live checking stopped ({reason}): check again.</source>
@@ -326,6 +426,10 @@
     <message>
         <source>Live checking stopped here ({reason}): check again.</source>
         <translation>Das Prüfen beim Bearbeiten endet hier ({reason}): Prüfen Sie erneut.</translation>
+    </message>
+    <message>
+        <source>Live register</source>
+        <translation>Laufendes Register</translation>
     </message>
     <message>
         <source>Live: refused: {text}</source>
@@ -344,12 +448,24 @@
         <translation>Längste Wartezeit auf eine Antwort (s)</translation>
     </message>
     <message>
+        <source>Made: entries {numbers}.</source>
+        <translation>Gemacht: Einträge {numbers}.</translation>
+    </message>
+    <message>
         <source>Mend all faults of one kind</source>
         <translation>Alle Fehler einer Art beheben</translation>
     </message>
     <message>
+        <source>Merge</source>
+        <translation>Vereinigen</translation>
+    </message>
+    <message>
         <source>Most rings of a district</source>
         <translation>Höchstzahl der Ringe eines Bezirks</translation>
+    </message>
+    <message>
+        <source>Move a border</source>
+        <translation>Grenze verlegen</translation>
     </message>
     <message>
         <source>Move the odd corner of parcel {parcel} to where the others agree</source>
@@ -372,8 +488,20 @@
         <translation>Kein Fehler ist gewählt.</translation>
     </message>
     <message>
+        <source>No parcel has this corner.</source>
+        <translation>Kein Flurstück hat diese Ecke.</translation>
+    </message>
+    <message>
         <source>No two parcels may have the same number. Without a field, rows are numbered from 1.</source>
         <translation>Keine zwei Flurstücke dürfen dieselbe Nummer haben. Ohne Feld werden die Zeilen ab 1 nummeriert.</translation>
+    </message>
+    <message>
+        <source>Not connected.</source>
+        <translation>Nicht verbunden.</translation>
+    </message>
+    <message>
+        <source>Not connected: its layer was taken from the project.</source>
+        <translation>Nicht verbunden: Sein Layer wurde aus dem Projekt genommen.</translation>
     </message>
     <message>
         <source>Notes each verdict's faults in a table beside the layer: when they were seen, and what was decided.</source>
@@ -532,6 +660,10 @@
         <translation>Punkte</translation>
     </message>
     <message>
+        <source>Post</source>
+        <translation>Senden</translation>
+    </message>
+    <message>
         <source>Prepare</source>
         <translation>Vorbereiten</translation>
     </message>
@@ -556,8 +688,20 @@
         <translation>Python, das das Paket gandovel hat (leer: das erste, das es hat)</translation>
     </message>
     <message>
+        <source>Reading {address} ..</source>
+        <translation>{address} wird gelesen ..</translation>
+    </message>
+    <message>
         <source>Refuse to move a corner farther than (mm)</source>
         <translation>Einen Eckpunkt nicht weiter verschieben als (mm)</translation>
+    </message>
+    <message>
+        <source>Register {address}</source>
+        <translation>Register {address}</translation>
+    </message>
+    <message>
+        <source>Remove a corner</source>
+        <translation>Ecke entfernen</translation>
     </message>
     <message>
         <source>Repair ..</source>
@@ -576,6 +720,10 @@
         <translation>Das Speichern wird angehalten, solange der Layer Fehler hat, die die letzte Prüfung nicht hatte.</translation>
     </message>
     <message>
+        <source>Say in Check parcels how near to a border a corner touches it (advanced). These fit (mm): {distances}.</source>
+        <translation>Sagen Sie in „Flurstücke prüfen“, wie nah an einer Grenze eine Ecke sie berührt (erweitert). Diese passen (mm): {distances}.</translation>
+    </message>
+    <message>
         <source>Say why: an exception has a reason.</source>
         <translation>Sagen Sie, warum: Eine Ausnahme hat eine Begründung.</translation>
     </message>
@@ -590,6 +738,10 @@
     <message>
         <source>Sliver</source>
         <translation>Splitter</translation>
+    </message>
+    <message>
+        <source>Split</source>
+        <translation>Teilen</translation>
     </message>
     <message>
         <source>Split parcels</source>
@@ -608,8 +760,24 @@
         <translation>Stand</translation>
     </message>
     <message>
+        <source>Take back</source>
+        <translation>Zurücknehmen</translation>
+    </message>
+    <message>
+        <source>Take from the list</source>
+        <translation>Von der Liste nehmen</translation>
+    </message>
+    <message>
         <source>The Python package gandovel was not found, or GeoPandas and tqdm, which it needs: install it from a release into ~/gandovel, as its README says, or name the Python that has it in {where}.</source>
         <translation>Das Python-Paket gandovel wurde nicht gefunden, oder GeoPandas und tqdm, die es braucht: Installieren Sie es aus einem Release nach ~/gandovel, wie die README sagt, oder nennen Sie das Python, das es hat, unter {where}.</translation>
+    </message>
+    <message>
+        <source>The address {address} is no register of gandovel serve ({reason}).</source>
+        <translation>Die Adresse {address} ist kein Register von gandovel serve ({reason}).</translation>
+    </message>
+    <message>
+        <source>The border was changed by another edit: click it again.</source>
+        <translation>Die Grenze wurde durch eine andere Änderung geändert: Klicken Sie noch einmal darauf.</translation>
     </message>
     <message>
         <source>The check failed: {reason}</source>
@@ -652,12 +820,28 @@
         <translation>Der Layer {name} hat keine Projektion: Geben Sie ihm eine, oder nennen Sie die Einheit seiner Koordinaten.</translation>
     </message>
     <message>
+        <source>The neighbour is gone: another edit took it out.</source>
+        <translation>Der Nachbar ist weg: Eine andere Änderung hat ihn herausgenommen.</translation>
+    </message>
+    <message>
+        <source>The new border has to begin and end where the old one does.</source>
+        <translation>Die neue Grenze muss beginnen und enden, wo es die alte tut.</translation>
+    </message>
+    <message>
         <source>The next fault ({key})</source>
         <translation>Der nächste Fehler ({key})</translation>
     </message>
     <message>
         <source>The package gandovel wrote no layer {name}: install the version that fits this plugin.</source>
         <translation>Das Paket gandovel hat keinen Layer {name} geschrieben: Installieren Sie die Version, die zu dieser Erweiterung passt.</translation>
+    </message>
+    <message>
+        <source>The parcel is gone: another edit took it out.</source>
+        <translation>Das Flurstück ist weg: Eine andere Änderung hat es herausgenommen.</translation>
+    </message>
+    <message>
+        <source>The parcel would touch itself.</source>
+        <translation>Das Flurstück würde sich selbst berühren.</translation>
     </message>
     <message>
         <source>The parcels</source>
@@ -676,12 +860,56 @@
         <translation>Die Flurstücke decken die Stadt lückenlos: {counts}.</translation>
     </message>
     <message>
-        <source>The program parcel_tool was not found: install it from a release, or name it in {where}.</source>
-        <translation>Das Programm parcel_tool wurde nicht gefunden: Installieren Sie es aus einem Release, oder nennen Sie es unter {where}.</translation>
+        <source>The path crosses itself, touches the border, or leaves the parcel.</source>
+        <translation>Der Weg kreuzt sich, berührt die Grenze oder verlässt das Flurstück.</translation>
+    </message>
+    <message>
+        <source>The path does not begin in a corner of the parcel. Put a corner in first.</source>
+        <translation>Der Weg beginnt in keiner Ecke des Flurstücks. Fügen Sie zuerst eine Ecke ein.</translation>
+    </message>
+    <message>
+        <source>The path does not end in a corner of the parcel. Put a corner in first.</source>
+        <translation>Der Weg endet in keiner Ecke des Flurstücks. Fügen Sie zuerst eine Ecke ein.</translation>
+    </message>
+    <message>
+        <source>The path ends where it begins.</source>
+        <translation>Der Weg endet, wo er beginnt.</translation>
+    </message>
+    <message>
+        <source>The path needs a corner to begin in, and another to end in.</source>
+        <translation>Der Weg braucht eine Ecke, in der er beginnt, und eine andere, in der er endet.</translation>
+    </message>
+    <message>
+        <source>The program parcel_tool was not found: install it from a release, or name it in {where}. The plugin has none of its own for {platform}: make build makes one from the sources.</source>
+        <translation>Das Programm parcel_tool wurde nicht gefunden: Installieren Sie es aus einer Ausgabe, oder nennen Sie es in {where}. Das Plugin hat für {platform} kein eigenes: make build macht eines aus den Quellen.</translation>
+    </message>
+    <message>
+        <source>The register asks for a token: {reason}</source>
+        <translation>Das Register verlangt ein Token: {reason}</translation>
+    </message>
+    <message>
+        <source>The register at {address} does not answer: {reason}</source>
+        <translation>Das Register unter {address} antwortet nicht: {reason}</translation>
+    </message>
+    <message>
+        <source>The register does not answer; it is asked again.</source>
+        <translation>Das Register antwortet nicht; es wird noch einmal gefragt.</translation>
+    </message>
+    <message>
+        <source>The register keeps it, and another clerk approves it on the register's page.</source>
+        <translation>Das Register behält ihn, und jemand anderes gibt ihn auf der Seite des Registers frei.</translation>
     </message>
     <message>
         <source>The register of faults in {path} can't be written ({reason}): see whether the file may be written.</source>
         <translation>Das Fehlerverzeichnis in {path} kann nicht geschrieben werden ({reason}): Prüfen Sie, ob die Datei geschrieben werden darf.</translation>
+    </message>
+    <message>
+        <source>The register takes one edit at a time: these are posted one after the other. Where one is refused, those before it stay made, and those after it are not sent.</source>
+        <translation>Das Register nimmt Änderungen einzeln an: Diese werden eine nach der anderen gesendet. Wird eine abgewiesen, bleiben die davor gemacht, und die danach werden nicht gesendet.</translation>
+    </message>
+    <message>
+        <source>The two parcels have no border in common.</source>
+        <translation>Die beiden Flurstücke haben keine gemeinsame Grenze.</translation>
     </message>
     <message>
         <source>The verdict is open: {counts}.</source>
@@ -694,6 +922,10 @@
     <message>
         <source>The zones do not tile the city: {counts}.</source>
         <translation>Die Zonen decken die Stadt nicht lückenlos: {counts}.</translation>
+    </message>
+    <message>
+        <source>Their common border is not one unbroken run.</source>
+        <translation>Ihre gemeinsame Grenze ist kein zusammenhängendes Stück.</translation>
     </message>
     <message>
         <source>There is no layer of polygons to check: add one to the project.</source>
@@ -712,8 +944,16 @@
         <translation>Sie werden genannt, und das Urteil gilt für die anderen.</translation>
     </message>
     <message>
+        <source>This border has no whole millimetre between its ends: move the border instead.</source>
+        <translation>Diese Grenze hat keinen ganzen Millimeter zwischen ihren Enden: Verlegen Sie stattdessen die Grenze.</translation>
+    </message>
+    <message>
         <source>This is of {layer}, not of the layer that is chosen above. Check that one.</source>
         <translation>Dies gilt für {layer}, nicht für den oben gewählten Layer. Prüfen Sie jenen.</translation>
+    </message>
+    <message>
+        <source>Token</source>
+        <translation>Token</translation>
     </message>
     <message>
         <source>Unit</source>
@@ -736,8 +976,16 @@
         <translation>Ist sie angegeben, wird auch ein kleinerer Layer in Bezirke geschnitten.</translation>
     </message>
     <message>
+        <source>Which faults there are can't be told from the layer's noise: {counts}.</source>
+        <translation>Welche Fehler es gibt, lässt sich vom Rauschen des Layers nicht trennen: {counts}.</translation>
+    </message>
+    <message>
         <source>Why it is no fault: a reason</source>
         <translation>Warum es kein Fehler ist: eine Begründung</translation>
+    </message>
+    <message>
+        <source>Why: stands in the journal</source>
+        <translation>Warum: steht im Journal</translation>
     </message>
     <message>
         <source>Without it the outline is made of the parcels, and a gap along it is an open gap.</source>
@@ -762,6 +1010,10 @@
     <message>
         <source>accepted</source>
         <translation>angenommen</translation>
+    </message>
+    <message>
+        <source>another program</source>
+        <translation>ein anderes Programm</translation>
     </message>
     <message>
         <source>is the disk full?</source>
@@ -804,12 +1056,20 @@
         <translation>der Layer wird geschrieben</translation>
     </message>
     <message>
+        <source>{address} is no address: it begins with http:// or https://.</source>
+        <translation>{address} ist keine Adresse: Sie beginnt mit http:// oder https://.</translation>
+    </message>
+    <message>
         <source>{count} corners</source>
         <translation>{count} Eckpunkte</translation>
     </message>
     <message>
         <source>{count} corners were made to touch, at most {largest} off; this closed {closed}.</source>
         <translation>{count} Eckpunkte wurden zum Berühren gebracht, höchstens {largest} daneben; das schloss {closed}.</translation>
+    </message>
+    <message>
+        <source>{count} edits of the list were not sent.</source>
+        <translation>{count} Änderungen der Liste wurden nicht gesendet.</translation>
     </message>
     <message>
         <source>{count} faults written to {path}.</source>
@@ -844,12 +1104,20 @@
         <translation>{count} Splitter</translation>
     </message>
     <message>
+        <source>{edit}: a parcel of it was changed meanwhile. Take it from the list, and draw it again.</source>
+        <translation>{edit}: Ein Flurstück davon wurde inzwischen geändert. Nehmen Sie es von der Liste, und zeichnen Sie es noch einmal.</translation>
+    </message>
+    <message>
         <source>{kind} of zones</source>
         <translation>{kind} der Zonen</translation>
     </message>
     <message>
         <source>{kind} of {area} m² in {layer}, at the parcels {numbers}</source>
         <translation>{kind} von {area} m² in {layer}, an den Flurstücken {numbers}</translation>
+    </message>
+    <message>
+        <source>{kind} was refused ({reason}).</source>
+        <translation>{kind} wurde abgewiesen ({reason}).</translation>
     </message>
     <message>
         <source>{layer} do not tile the city.</source>
@@ -876,8 +1144,16 @@
         <translation>{layer}: {title}.</translation>
     </message>
     <message>
+        <source>{parcels} parcels after {entries} entries.</source>
+        <translation>{parcels} Flurstücke nach {entries} Einträgen.</translation>
+    </message>
+    <message>
         <source>{path} can't be written: {reason}</source>
         <translation>{path} kann nicht geschrieben werden: {reason}</translation>
+    </message>
+    <message>
+        <source>{reason} Post again: an edit that was made is not made twice.</source>
+        <translation>{reason} Senden Sie noch einmal: Eine Änderung, die gemacht wurde, wird nicht zweimal gemacht.</translation>
     </message>
     <message>
         <source>{title} needs parcels that tile: mend the faults that Check parcels lists.</source>

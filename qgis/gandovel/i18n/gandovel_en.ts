@@ -20,6 +20,10 @@
         <translation>1 corner</translation>
     </message>
     <message>
+        <source>1 edit of the list was not sent.</source>
+        <translation>1 edit of the list was not sent.</translation>
+    </message>
+    <message>
         <source>1 gap</source>
         <translation>1 gap</translation>
     </message>
@@ -72,12 +76,24 @@
         <translation>&lt;p&gt;Which parcels lie in which zones, also where the layers do not tile.&lt;/p&gt;&lt;p&gt;&lt;b&gt;Split parcels&lt;/b&gt; are those in two zones or more, with the zones' names. &lt;b&gt;Parts&lt;/b&gt; are what each has in each zone, with its area. The &lt;b&gt;joined table&lt;/b&gt; has a row for each parcel and zone that overlap, with the attributes of both. &lt;b&gt;Pairs&lt;/b&gt; are the table without attributes. &lt;b&gt;Faults&lt;/b&gt; are those of parcels and zones.&lt;/p&gt;&lt;p&gt;That a parcel and a zone overlap is exact; those that only touch are not told. Where both layers tile, areas are proved: twice the area in mm², &lt;i&gt;area2_mm2&lt;/i&gt;, is at most 1 off, and a parcel's areas sum to its own. Else they are measured (&lt;i&gt;area_how&lt;/i&gt;). Where a parcel overlaps no zone, or lies beyond the city, the table has a zone that is measured at a point inside it, or none (&lt;i&gt;zone_how&lt;/i&gt;).&lt;/p&gt;</translation>
     </message>
     <message>
+        <source>A border bends at this corner, or a third one ends there.</source>
+        <translation>A border bends at this corner, or a third one ends there.</translation>
+    </message>
+    <message>
         <source>A border moves by {far} at most.</source>
         <translation>A border moves by {far} at most.</translation>
     </message>
     <message>
         <source>A corner this near to a border touches it (mm)</source>
         <translation>A corner this near to a border touches it (mm)</translation>
+    </message>
+    <message>
+        <source>A parcel of this edit was changed meanwhile: look at the map, and draw it again.</source>
+        <translation>A parcel of this edit was changed meanwhile: look at the map, and draw it again.</translation>
+    </message>
+    <message>
+        <source>A part would have no area, or the path leaves the parcel.</source>
+        <translation>A part would have no area, or the path leaves the parcel.</translation>
     </message>
     <message>
         <source>A register of faults needs a layer in a file: save this one as a GeoPackage first.</source>
@@ -90,6 +106,14 @@
     <message>
         <source>Accepted, with your reason, in the register of faults.</source>
         <translation>Accepted, with your reason, in the register of faults.</translation>
+    </message>
+    <message>
+        <source>Add to the list</source>
+        <translation>Add to the list</translation>
+    </message>
+    <message>
+        <source>Address</source>
+        <translation>Address</translation>
     </message>
     <message>
         <source>After a check, each parcel that you change is checked at once, with its neighbours alone.</source>
@@ -200,12 +224,48 @@
         <translation>Clerk's file of edits</translation>
     </message>
     <message>
+        <source>Click a border.</source>
+        <translation>Click a border.</translation>
+    </message>
+    <message>
+        <source>Click a corner.</source>
+        <translation>Click a corner.</translation>
+    </message>
+    <message>
+        <source>Click the neighbour.</source>
+        <translation>Click the neighbour.</translation>
+    </message>
+    <message>
+        <source>Click the parcel, and then its border where the new corner comes.</source>
+        <translation>Click the parcel, and then its border where the new corner comes.</translation>
+    </message>
+    <message>
+        <source>Click the parcel, and then the corner that goes, where the borders go straight on.</source>
+        <translation>Click the parcel, and then the corner that goes, where the borders go straight on.</translation>
+    </message>
+    <message>
+        <source>Click the parcel, and then the neighbour that becomes one with it.</source>
+        <translation>Click the parcel, and then the neighbour that becomes one with it.</translation>
+    </message>
+    <message>
+        <source>Click the parcel, the neighbour, and then the corners of the new border between its two ends.</source>
+        <translation>Click the parcel, the neighbour, and then the corners of the new border between its two ends.</translation>
+    </message>
+    <message>
+        <source>Click the parcel, then the corner where the cut begins, its corners, and the corner where it ends.</source>
+        <translation>Click the parcel, then the corner where the cut begins, its corners, and the corner where it ends.</translation>
+    </message>
+    <message>
         <source>Compare with a register's session</source>
         <translation>Compare with a register's session</translation>
     </message>
     <message>
         <source>Compared parcels</source>
         <translation>Compared parcels</translation>
+    </message>
+    <message>
+        <source>Connect</source>
+        <translation>Connect</translation>
     </message>
     <message>
         <source>Corners disagree here, so nothing was changed in {layer}: parcels {numbers}. Repair shows what can be done.</source>
@@ -220,8 +280,16 @@
         <translation>Desk: the path of its pipes, without .in or .out</translation>
     </message>
     <message>
+        <source>Disconnect</source>
+        <translation>Disconnect</translation>
+    </message>
+    <message>
         <source>Do not save new faults</source>
         <translation>Do not save new faults</translation>
+    </message>
+    <message>
+        <source>Drop</source>
+        <translation>Drop</translation>
     </message>
     <message>
         <source>Edited parcels</source>
@@ -268,6 +336,14 @@
         <translation>Gandovel: exact check of parcel layers</translation>
     </message>
     <message>
+        <source>Gandovel: posting edits</source>
+        <translation>Gandovel: posting edits</translation>
+    </message>
+    <message>
+        <source>Gandovel: reading the register</source>
+        <translation>Gandovel: reading the register</translation>
+    </message>
+    <message>
         <source>Gap</source>
         <translation>Gap</translation>
     </message>
@@ -292,6 +368,10 @@
         <translation>Help</translation>
     </message>
     <message>
+        <source>Insert a corner</source>
+        <translation>Insert a corner</translation>
+    </message>
+    <message>
         <source>Insert missing corners</source>
         <translation>Insert missing corners</translation>
     </message>
@@ -308,6 +388,10 @@
         <translation>Insert the missing corner</translation>
     </message>
     <message>
+        <source>It can be posted.</source>
+        <translation>It can be posted.</translation>
+    </message>
+    <message>
         <source>Joined table</source>
         <translation>Joined table</translation>
     </message>
@@ -316,8 +400,24 @@
         <translation>Keep a register of faults</translation>
     </message>
     <message>
+        <source>Keep as a draft</source>
+        <translation>Keep as a draft</translation>
+    </message>
+    <message>
+        <source>Kept as a draft. It would bring {areas}.</source>
+        <translation>Kept as a draft. It would bring {areas}.</translation>
+    </message>
+    <message>
+        <source>Kept until QGIS is closed. Without TLS it goes in clear text.</source>
+        <translation>Kept until QGIS is closed. Without TLS it goes in clear text.</translation>
+    </message>
+    <message>
         <source>Kind</source>
         <translation>Kind</translation>
+    </message>
+    <message>
+        <source>Last: {kind} by {who}.</source>
+        <translation>Last: {kind} by {who}.</translation>
     </message>
     <message>
         <source>Live checking stopped ({reason}): check again.</source>
@@ -326,6 +426,10 @@
     <message>
         <source>Live checking stopped here ({reason}): check again.</source>
         <translation>Live checking stopped here ({reason}): check again.</translation>
+    </message>
+    <message>
+        <source>Live register</source>
+        <translation>Live register</translation>
     </message>
     <message>
         <source>Live: refused: {text}</source>
@@ -344,12 +448,24 @@
         <translation>Longest wait for an answer (s)</translation>
     </message>
     <message>
+        <source>Made: entries {numbers}.</source>
+        <translation>Made: entries {numbers}.</translation>
+    </message>
+    <message>
         <source>Mend all faults of one kind</source>
         <translation>Mend all faults of one kind</translation>
     </message>
     <message>
+        <source>Merge</source>
+        <translation>Merge</translation>
+    </message>
+    <message>
         <source>Most rings of a district</source>
         <translation>Most rings of a district</translation>
+    </message>
+    <message>
+        <source>Move a border</source>
+        <translation>Move a border</translation>
     </message>
     <message>
         <source>Move the odd corner of parcel {parcel} to where the others agree</source>
@@ -372,8 +488,20 @@
         <translation>No fault is chosen.</translation>
     </message>
     <message>
+        <source>No parcel has this corner.</source>
+        <translation>No parcel has this corner.</translation>
+    </message>
+    <message>
         <source>No two parcels may have the same number. Without a field, rows are numbered from 1.</source>
         <translation>No two parcels may have the same number. Without a field, rows are numbered from 1.</translation>
+    </message>
+    <message>
+        <source>Not connected.</source>
+        <translation>Not connected.</translation>
+    </message>
+    <message>
+        <source>Not connected: its layer was taken from the project.</source>
+        <translation>Not connected: its layer was taken from the project.</translation>
     </message>
     <message>
         <source>Notes each verdict's faults in a table beside the layer: when they were seen, and what was decided.</source>
@@ -532,6 +660,10 @@
         <translation>Points</translation>
     </message>
     <message>
+        <source>Post</source>
+        <translation>Post</translation>
+    </message>
+    <message>
         <source>Prepare</source>
         <translation>Prepare</translation>
     </message>
@@ -556,8 +688,20 @@
         <translation>Python that has the package gandovel (empty: the first that has it)</translation>
     </message>
     <message>
+        <source>Reading {address} ..</source>
+        <translation>Reading {address} ..</translation>
+    </message>
+    <message>
         <source>Refuse to move a corner farther than (mm)</source>
         <translation>Refuse to move a corner farther than (mm)</translation>
+    </message>
+    <message>
+        <source>Register {address}</source>
+        <translation>Register {address}</translation>
+    </message>
+    <message>
+        <source>Remove a corner</source>
+        <translation>Remove a corner</translation>
     </message>
     <message>
         <source>Repair ..</source>
@@ -576,6 +720,10 @@
         <translation>Saving is held while the layer has faults that the last check had not.</translation>
     </message>
     <message>
+        <source>Say in Check parcels how near to a border a corner touches it (advanced). These fit (mm): {distances}.</source>
+        <translation>Say in Check parcels how near to a border a corner touches it (advanced). These fit (mm): {distances}.</translation>
+    </message>
+    <message>
         <source>Say why: an exception has a reason.</source>
         <translation>Say why: an exception has a reason.</translation>
     </message>
@@ -590,6 +738,10 @@
     <message>
         <source>Sliver</source>
         <translation>Sliver</translation>
+    </message>
+    <message>
+        <source>Split</source>
+        <translation>Split</translation>
     </message>
     <message>
         <source>Split parcels</source>
@@ -608,8 +760,24 @@
         <translation>State</translation>
     </message>
     <message>
+        <source>Take back</source>
+        <translation>Take back</translation>
+    </message>
+    <message>
+        <source>Take from the list</source>
+        <translation>Take from the list</translation>
+    </message>
+    <message>
         <source>The Python package gandovel was not found, or GeoPandas and tqdm, which it needs: install it from a release into ~/gandovel, as its README says, or name the Python that has it in {where}.</source>
         <translation>The Python package gandovel was not found, or GeoPandas and tqdm, which it needs: install it from a release into ~/gandovel, as its README says, or name the Python that has it in {where}.</translation>
+    </message>
+    <message>
+        <source>The address {address} is no register of gandovel serve ({reason}).</source>
+        <translation>The address {address} is no register of gandovel serve ({reason}).</translation>
+    </message>
+    <message>
+        <source>The border was changed by another edit: click it again.</source>
+        <translation>The border was changed by another edit: click it again.</translation>
     </message>
     <message>
         <source>The check failed: {reason}</source>
@@ -652,12 +820,28 @@
         <translation>The layer {name} has no projection: give it one, or name the unit of its coordinates.</translation>
     </message>
     <message>
+        <source>The neighbour is gone: another edit took it out.</source>
+        <translation>The neighbour is gone: another edit took it out.</translation>
+    </message>
+    <message>
+        <source>The new border has to begin and end where the old one does.</source>
+        <translation>The new border has to begin and end where the old one does.</translation>
+    </message>
+    <message>
         <source>The next fault ({key})</source>
         <translation>The next fault ({key})</translation>
     </message>
     <message>
         <source>The package gandovel wrote no layer {name}: install the version that fits this plugin.</source>
         <translation>The package gandovel wrote no layer {name}: install the version that fits this plugin.</translation>
+    </message>
+    <message>
+        <source>The parcel is gone: another edit took it out.</source>
+        <translation>The parcel is gone: another edit took it out.</translation>
+    </message>
+    <message>
+        <source>The parcel would touch itself.</source>
+        <translation>The parcel would touch itself.</translation>
     </message>
     <message>
         <source>The parcels</source>
@@ -676,12 +860,56 @@
         <translation>The parcels tile the city: {counts}.</translation>
     </message>
     <message>
-        <source>The program parcel_tool was not found: install it from a release, or name it in {where}.</source>
-        <translation>The program parcel_tool was not found: install it from a release, or name it in {where}.</translation>
+        <source>The path crosses itself, touches the border, or leaves the parcel.</source>
+        <translation>The path crosses itself, touches the border, or leaves the parcel.</translation>
+    </message>
+    <message>
+        <source>The path does not begin in a corner of the parcel. Put a corner in first.</source>
+        <translation>The path does not begin in a corner of the parcel. Put a corner in first.</translation>
+    </message>
+    <message>
+        <source>The path does not end in a corner of the parcel. Put a corner in first.</source>
+        <translation>The path does not end in a corner of the parcel. Put a corner in first.</translation>
+    </message>
+    <message>
+        <source>The path ends where it begins.</source>
+        <translation>The path ends where it begins.</translation>
+    </message>
+    <message>
+        <source>The path needs a corner to begin in, and another to end in.</source>
+        <translation>The path needs a corner to begin in, and another to end in.</translation>
+    </message>
+    <message>
+        <source>The program parcel_tool was not found: install it from a release, or name it in {where}. The plugin has none of its own for {platform}: make build makes one from the sources.</source>
+        <translation>The program parcel_tool was not found: install it from a release, or name it in {where}. The plugin has none of its own for {platform}: make build makes one from the sources.</translation>
+    </message>
+    <message>
+        <source>The register asks for a token: {reason}</source>
+        <translation>The register asks for a token: {reason}</translation>
+    </message>
+    <message>
+        <source>The register at {address} does not answer: {reason}</source>
+        <translation>The register at {address} does not answer: {reason}</translation>
+    </message>
+    <message>
+        <source>The register does not answer; it is asked again.</source>
+        <translation>The register does not answer; it is asked again.</translation>
+    </message>
+    <message>
+        <source>The register keeps it, and another clerk approves it on the register's page.</source>
+        <translation>The register keeps it, and another clerk approves it on the register's page.</translation>
     </message>
     <message>
         <source>The register of faults in {path} can't be written ({reason}): see whether the file may be written.</source>
         <translation>The register of faults in {path} can't be written ({reason}): see whether the file may be written.</translation>
+    </message>
+    <message>
+        <source>The register takes one edit at a time: these are posted one after the other. Where one is refused, those before it stay made, and those after it are not sent.</source>
+        <translation>The register takes one edit at a time: these are posted one after the other. Where one is refused, those before it stay made, and those after it are not sent.</translation>
+    </message>
+    <message>
+        <source>The two parcels have no border in common.</source>
+        <translation>The two parcels have no border in common.</translation>
     </message>
     <message>
         <source>The verdict is open: {counts}.</source>
@@ -694,6 +922,10 @@
     <message>
         <source>The zones do not tile the city: {counts}.</source>
         <translation>The zones do not tile the city: {counts}.</translation>
+    </message>
+    <message>
+        <source>Their common border is not one unbroken run.</source>
+        <translation>Their common border is not one unbroken run.</translation>
     </message>
     <message>
         <source>There is no layer of polygons to check: add one to the project.</source>
@@ -712,8 +944,16 @@
         <translation>They are told, and the verdict is of the others.</translation>
     </message>
     <message>
+        <source>This border has no whole millimetre between its ends: move the border instead.</source>
+        <translation>This border has no whole millimetre between its ends: move the border instead.</translation>
+    </message>
+    <message>
         <source>This is of {layer}, not of the layer that is chosen above. Check that one.</source>
         <translation>This is of {layer}, not of the layer that is chosen above. Check that one.</translation>
+    </message>
+    <message>
+        <source>Token</source>
+        <translation>Token</translation>
     </message>
     <message>
         <source>Unit</source>
@@ -736,8 +976,16 @@
         <translation>Where it is given, a smaller layer is cut into districts, too.</translation>
     </message>
     <message>
+        <source>Which faults there are can't be told from the layer's noise: {counts}.</source>
+        <translation>Which faults there are can't be told from the layer's noise: {counts}.</translation>
+    </message>
+    <message>
         <source>Why it is no fault: a reason</source>
         <translation>Why it is no fault: a reason</translation>
+    </message>
+    <message>
+        <source>Why: stands in the journal</source>
+        <translation>Why: stands in the journal</translation>
     </message>
     <message>
         <source>Without it the outline is made of the parcels, and a gap along it is an open gap.</source>
@@ -762,6 +1010,10 @@
     <message>
         <source>accepted</source>
         <translation>accepted</translation>
+    </message>
+    <message>
+        <source>another program</source>
+        <translation>another program</translation>
     </message>
     <message>
         <source>is the disk full?</source>
@@ -804,12 +1056,20 @@
         <translation>writing the layer</translation>
     </message>
     <message>
+        <source>{address} is no address: it begins with http:// or https://.</source>
+        <translation>{address} is no address: it begins with http:// or https://.</translation>
+    </message>
+    <message>
         <source>{count} corners</source>
         <translation>{count} corners</translation>
     </message>
     <message>
         <source>{count} corners were made to touch, at most {largest} off; this closed {closed}.</source>
         <translation>{count} corners were made to touch, at most {largest} off; this closed {closed}.</translation>
+    </message>
+    <message>
+        <source>{count} edits of the list were not sent.</source>
+        <translation>{count} edits of the list were not sent.</translation>
     </message>
     <message>
         <source>{count} faults written to {path}.</source>
@@ -844,12 +1104,20 @@
         <translation>{count} slivers</translation>
     </message>
     <message>
+        <source>{edit}: a parcel of it was changed meanwhile. Take it from the list, and draw it again.</source>
+        <translation>{edit}: a parcel of it was changed meanwhile. Take it from the list, and draw it again.</translation>
+    </message>
+    <message>
         <source>{kind} of zones</source>
         <translation>{kind} of zones</translation>
     </message>
     <message>
         <source>{kind} of {area} m² in {layer}, at the parcels {numbers}</source>
         <translation>{kind} of {area} m² in {layer}, at the parcels {numbers}</translation>
+    </message>
+    <message>
+        <source>{kind} was refused ({reason}).</source>
+        <translation>{kind} was refused ({reason}).</translation>
     </message>
     <message>
         <source>{layer} do not tile the city.</source>
@@ -876,8 +1144,16 @@
         <translation>{layer}: {title}.</translation>
     </message>
     <message>
+        <source>{parcels} parcels after {entries} entries.</source>
+        <translation>{parcels} parcels after {entries} entries.</translation>
+    </message>
+    <message>
         <source>{path} can't be written: {reason}</source>
         <translation>{path} can't be written: {reason}</translation>
+    </message>
+    <message>
+        <source>{reason} Post again: an edit that was made is not made twice.</source>
+        <translation>{reason} Post again: an edit that was made is not made twice.</translation>
     </message>
     <message>
         <source>{title} needs parcels that tile: mend the faults that Check parcels lists.</source>

@@ -58,6 +58,7 @@ class Records:
             "numbers": list(dict.fromkeys(owner.number for owner in owners)),
             "features": [owner.feature for owner in owners],
             "shape": wkb.dumps(Polygon(rings[0], rings[1:]), hex=True),
+            "millimetres": float(scale),
         }
 
     def _bordering(self, fault: Any) -> List[Any]:

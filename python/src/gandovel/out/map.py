@@ -22,12 +22,16 @@ from shapely.errors import ShapelyError
 from ..errors import Refused
 from ..shapes import MULTIPOLYGON, POLYGON, kind_of, rings_of, shapes_of, wkb_in
 from ..whole_file import whole_file
+from .verdict import Verdict
 
 PAGE = Path(__file__).parent / "map_page"
 TOLD_UNIT = re.compile(r"Unit \((?:told|of the projection)\): (?P<name>.+?), (?P<metres>[0-9.e+-]+) m;")
 """What a report says of its unit (`notes.unit_text`)."""
 MILLIMETRES = 1000.0
 MOST_MILLIMETRES = 2**31 - 1
+STANDS_ON = "The verdict stands on: "
+"""What a report says before its basis (`basis.Basis.text`)."""
+UNDECIDED = "it can't be decided"
 FAULT_LAYERS = ("gaps", "overlaps", "beyond", "open_gaps", "slivers")
 FAULT_COLUMNS = ("area2_mm2", "area_m2", "numbers", "numbers_how", "layer")
 COLUMNS: Dict[str, Sequence[str]] = {
@@ -38,6 +42,7 @@ COLUMNS: Dict[str, Sequence[str]] = {
     **{name: FAULT_COLUMNS for name in FAULT_LAYERS},
 }
 """What the page shows of each layer of a report. A column that is not there counts as empty."""
+ABOUT = "SELECT description, last_change FROM gpkg_contents WHERE table_name = 'parcels'"
 GEOMETRY = "SELECT column_name, srs_id FROM gpkg_geometry_columns WHERE table_name = ?"
 SYSTEM = "SELECT definition FROM gpkg_spatial_ref_sys WHERE srs_id = ?"
 Rings = List["np.ndarray[Any, Any]"]
@@ -65,7 +70,8 @@ def page_of(report: Path) -> str:
     """The page's text. Refused P1 where the file is no report."""
     data = json.dumps(_data_of(report), separators=(",", ":")).replace("<", "\\u003c")
     title = html.escape(report.stem.encode("utf-8", "replace").decode("utf-8"))
-    parts = {"TITLE": title, "STYLE": _text("page.css"), "DATA": data, "SCRIPT": _text("page.js"), **drawing_parts()}
+    parts = {"TITLE": title, "STYLE": _text("page.css"), "DATA": data, "SHEET": _text("sheet.js")}
+    parts = {**parts, "SCRIPT": _text("page.js"), **drawing_parts()}
     pieces = _text("page.html").split("@")
     return "".join(parts[piece] if at % 2 else piece for at, piece in enumerate(pieces))
 
@@ -114,7 +120,7 @@ def _data_of(report: Path) -> Dict[str, Any]:
         with closing(sqlite3.connect(f"{report.resolve().as_uri()}?mode=ro", uri=True)) as connection:
             connection.text_factory = lambda text: text.decode("utf-8", "replace")
             layers = {name: _layer(connection, name, columns) for name, columns in COLUMNS.items()}
-            unit = _unit(connection)
+            unit, about = _unit(connection), connection.execute(ABOUT).fetchone()
             split = _table(connection, "split", ("number", "zones"))
             parts = _table(connection, "split_parts", ("number", "zone", "area_m2", "area_how"))
     except (sqlite3.Error, OSError) as fault:
@@ -122,6 +128,7 @@ def _data_of(report: Path) -> Dict[str, Any]:
     kept = {name: layer for name, layer in layers.items() if layer is not None}
     if "parcels" not in kept:
         raise Refused("P1", f"{report} has no layer parcels: it is none of the files that gandovel report writes")
+    told = _told(about, kept)
     _add_split(kept["parcels"], split, parts)
     _add_order(kept)
     metres = unit[1]
@@ -129,9 +136,24 @@ def _data_of(report: Path) -> Dict[str, Any]:
     _add_areas(kept, metres)
     return {
         "unit": {"name": unit[0], "metres": metres},
+        "told": told,
         "low": [value * metres for value in low],
         "layers": {name: _packed(layer, low, metres, report) for name, layer in kept.items()},
     }
+
+
+def _told(about: Optional[Tuple[Any, Any]], layers: Dict[str, _Layer]) -> Dict[str, str]:
+    """The verdict in words, when it was written, and its basis, which an older report does not have."""
+    description, time = ("", "") if about is None else (str(it or "") for it in about)
+    basis = description.partition(STANDS_ON)[2]
+    count = {name: len(layers[name]) if name in layers else 0 for name in FAULT_LAYERS}
+    open_gaps = count.pop("open_gaps")
+    verdict = Verdict.OPEN if open_gaps else Verdict.TILES
+    if any(count.values()):
+        verdict = Verdict.DOES_NOT_TILE
+    if verdict is not Verdict.TILES and UNDECIDED in basis:
+        verdict = Verdict.UNDECIDED
+    return {"verdict": verdict.words, "time": time, "basis": basis}
 
 
 def _unit(connection: sqlite3.Connection) -> Tuple[str, float]:

@@ -4,9 +4,12 @@
   const byId = (id) => document.getElementById(id);
   const field = byId("map"), tip = byId("tip"), details = byId("details"), found = byId("found"), list = byId("list");
   const SHOWN = 100, FEW = 12;
+  /** How wide and high a parcel is, in pixels, for its number to be drawn. */
+  const WIDE = 30, HIGH = 16;
+  const off = new Set();
   const FAULTS = { gaps: "gap", overlaps: "overlap", beyond: "part beyond the city", open_gaps: "open gap", slivers: "sliver" };
   const LAYERS = [
-    { name: "parcels", draw: "areas", look: (it) => (it.properties.zones ? "split" : "parcel"), text: "parcel" },
+    { name: "parcels", draw: "areas", look: (it) => (it.properties.zones && !off.has("split") ? "split" : "parcel"), text: "parcel" },
     { name: "zones", draw: "borders", look: "zone", text: "zone's border" },
     { name: "touched", draw: "points", look: "touched", text: "corner made to touch" },
     { name: "skipped", draw: "faults", look: "skipped", text: "skipped record" },
@@ -104,7 +107,26 @@
   const drawing = new ParcelMap(field, {
     layers: LAYERS, looks: LOOKS, onPick: tellOf, onHover: hover, onDrawn: drawn,
   });
+  let numbered = [];
+  /** Draws the numbers of the parcels that are seen, where there is room for them. */
+  function drawNumbers() {
+    numbered = [];
+    if (off.has("numbers") || off.has("parcel")) return;
+    const { left, top, scale, dots, seen } = drawing.frame, { pen } = drawing, style = getComputedStyle(document.documentElement);
+    const layer = drawing.layers.get("parcels"), { features } = drawing.packed(layer);
+    Object.assign(pen, { font: `${12 * dots}px system-ui, sans-serif`, textAlign: "center", textBaseline: "middle", lineJoin: "round",
+                         lineWidth: 3 * dots, strokeStyle: style.getPropertyValue("--ok"), fillStyle: style.getPropertyValue("--text") });
+    for (const row of drawing.within(layer, seen)) {
+      const [x0, y0, x1, y1] = features[row].box, wide = (x1 - x0) * scale, text = features[row].properties.number;
+      if (wide < WIDE * dots || (y1 - y0) * scale < HIGH * dots || pen.measureText(text).width + 6 * dots > wide) continue;
+      const [x, y] = ParcelMap.placeOf(features[row]), at = [(x - left) * scale, (top - y) * scale];
+      pen.strokeText(text, ...at);
+      pen.fillText(text, ...at);
+      numbered.push(text);
+    }
+  }
   function drawn() {
+    drawNumbers();
     drawScale();
     document.body.dataset.drawn = String(Number(document.body.dataset.drawn || 0) + 1);
   }
@@ -181,8 +203,12 @@
     byId("which").scrollIntoView({ block: "nearest" });
   });
   which.addEventListener("change", () => { first = 0; drawList(); });
+  const hashOf = (number) => `#parcel=${encodeURIComponent(number).replace(/%2F/g, "/")}`;
   function mark(feature) {
     drawing.select(feature);
+    try {
+      history.replaceState(null, "", feature && feature.layer === "parcels" ? hashOf(feature.properties.number) : "#");
+    } catch { /* a page inside another one may not change its address */ }
     list.querySelectorAll("[aria-current]").forEach((it) => it.removeAttribute("aria-current"));
     const at = feature ? listed().indexOf(feature) - first : -1;
     if (at >= 0 && at < list.children.length) list.children[at].firstChild.setAttribute("aria-current", "true");
@@ -222,11 +248,25 @@
         link.addEventListener("click", (event) => { event.preventDefault(); showInList(feature); });
         block.append(link);
       }
+      if (feature.layer === "parcels") block.append(...ofParcel(feature, zone));
       return block;
     });
     const more = shown.length > FEW ? [element("p", `and ${shown.length - FEW} more here: zoom in`)] : [];
     details.replaceChildren(close, ...blocks, ...more);
     details.hidden = !blocks.length;
+  }
+  /** What one does with a parcel: keep its address, print it. */
+  function ofParcel(feature, zone) {
+    const print = element("button", "Print", { type: "button", class: "print" }), own = faultsOf.get(feature.properties.number) || [];
+    print.addEventListener("click", () => {
+      const [x0, y0, x1, y1] = feature.box, edge = Math.max(x1 - x0, y1 - y0) / 4, box = [x0 - edge, y0 - edge, x1 + edge, y1 + edge];
+      const layer = drawing.layers.get("parcels"), { features } = drawing.packed(layer);
+      const near = Array.from(drawing.within(layer, box), (row) => features[row]);
+      const lines = [...linesOf(feature), ...(zone ? [zone] : []), ...own.map((it) => [titleOf(it), ...linesOf(it)].join("; "))];
+      Sheet.print(byId("sheet"), feature, [...near, ...own], titleOf(feature), lines,
+        { ...data.told, title: document.title, summary: byId("summary").textContent });
+    });
+    return [" ", element("a", "Link to it", { href: hashOf(feature.properties.number) }), " ", print];
   }
   let touched = false, pointed = null;
   document.addEventListener("pointerdown", (event) => { touched = event.pointerType === "touch"; }, true);
@@ -253,17 +293,29 @@
     [...kinds, ["split parcel", split.length], ...(skipped.length ? [["skipped parcel", skipped.length]] : [])]
       .map(([kind, count]) => `${kind}s: ${count}`).join(", ");
   const legend = byId("legend");
-  function explain(name, text) {
-    const item = element("li"), swatch = element("i", "", { class: `swatch ${name}` });
-    item.append(swatch, text); legend.append(item);
+  /** A line of the legend, which shows what it explains, or hides it. */
+  function explain(name, text, turn, isOn = true) {
+    const item = element("li"), label = element("label"), box = element("input", "", { type: "checkbox", "data-switch": name });
+    const turned = () => { if (box.checked) off.delete(name); else off.add(name); turn(box.checked); };
+    box.checked = isOn;
+    box.addEventListener("change", turned);
+    label.append(box, element("i", "", { class: `swatch ${name}` }), text);
+    item.append(label);
+    legend.append(item);
+    if (!isOn) turned();
   }
-  explain("parcel", "parcel");
-  explain("split", "split between zones");
+  const again = () => drawing.replace("parcels", [], []);
+  explain("parcel", "parcel", (isOn) => drawing.setShown("parcels", isOn));
+  explain("numbers", "numbers, where there is room", again);
+  if (split.length) explain("split", "split between zones", again);
   for (const [name, kind] of Object.entries(FAULTS))
     if (data.layers[name] && (name === "gaps" || name === "overlaps" || data.layers[name].columns.layer.length))
-      explain(name, kind);
+      explain(name, kind, () => drawing.setLayer("faults", faults.filter((it) => !off.has(it.properties.kind))));
+  // The crosses of corners that touch are many, and hide a small screen.
+  const isWide = !matchMedia("(max-width: 700px)").matches;
   for (const { name, look, text } of LAYERS.slice(1, 4))
-    if (data.layers[name] && drawing.features(name).length) explain(look, text);
+    if (data.layers[name] && drawing.features(name).length)
+      explain(look, text, (isOn) => drawing.setShown(name, isOn), look !== "touched" || isWide);
   const hasProved = parcels.some(({ properties: it }) => it.parts && it.parts_how === "proved");
   for (const text of ["exact: gaps and overlaps, their areas, and what is split",
                       ...(hasProved ? ["proved: areas of the parts of split parcels"] : []),
@@ -279,10 +331,23 @@
     const feature = byNumber.get(wanted) || others[0];
     const besides = others.length > 1 ? `, the first of ${others.length}` : "";
     found.textContent = feature ? `parcel ${feature.properties.number}${besides}` : wanted ? "no such parcel" : "";
-    if (!feature) return;
+    if (feature) show(feature);
+  });
+  function show(feature) {
     pick(feature);
     tell([feature], false);
-  });
+  }
+  /** Shows the parcel that the address names: exactly that one, or it says that there is none. */
+  function follow() {
+    const asked = /^#parcel=(.*)$/s.exec(location.hash);
+    if (!asked) return;
+    let number = asked[1];
+    try { number = decodeURIComponent(number); } catch { /* taken as it stands */ }
+    const feature = byNumber.get(number);
+    found.textContent = feature ? `parcel ${number}` : `the link names parcel ${number}, which is not in this report`;
+    if (feature) show(feature);
+  }
+  window.addEventListener("hashchange", follow);
   document.querySelectorAll("#tools button").forEach((button) => button.addEventListener("click", () => {
     const by = Number(button.dataset.zoom);
     if (by) drawing.zoom(by); else drawing.showAll();
@@ -292,7 +357,7 @@
   const KEYS = { "+": () => drawing.zoom(2), "=": () => drawing.zoom(2), "-": () => drawing.zoom(0.5),
                  "0": () => drawing.showAll(), "/": () => byId("number").focus() };
   document.addEventListener("keydown", (event) => {
-    const typing = event.target instanceof HTMLInputElement || event.target instanceof HTMLSelectElement;
+    const typing = event.target.matches("input:not([type=checkbox]), select");
     if (event.key === "Escape") {
       mark(null); tip.hidden = details.hidden = true;
       byId("number").value = ""; found.textContent = "";
@@ -309,9 +374,10 @@
 
   drawList();
   drawing.showAll();
+  follow();
   window.gandovelView = () => {
     const { scale, left, top, selected } = drawing.view();
-    return { scale, left, top, picked: selected && (selected.properties.number || selected.properties.kind) };
+    return { scale, left, top, numbered, picked: selected && (selected.properties.number || selected.properties.kind) };
   };
   window.gandovelMap = drawing;
 })();

@@ -1,0 +1,30 @@
+"""What the test of an exit during a check does inside QGIS: it closes QGIS by its own command while the check runs."""
+from __future__ import annotations
+
+import os
+import sys
+from pathlib import Path
+
+from qgis.core import QgsProject, QgsVectorLayer
+from qgis.PyQt.QtCore import QTimer
+from qgis.utils import iface, plugins
+
+sys.path.insert(0, str(Path(os.environ["GANDOVEL_WINDOW_CODE"])))
+from window_tools import FOLDER, turn  # noqa: E402
+
+
+def main() -> None:
+    """Begins a check with a program that takes long, and exits once that runs."""
+    layer = QgsVectorLayer(str(FOLDER / "street.gpkg"), "street", "ogr")
+    QgsProject.instance().addMapLayer(layer)
+    dock = plugins["gandovel"].dock
+    dock.show()
+    dock.layers.setLayer(layer)
+    dock.check_button.click()
+    turn(lambda: (FOLDER / "began").is_file() and (FOLDER / "began").read_text().endswith("\n"), "the program")
+    QgsProject.instance().setDirty(False)
+    (FOLDER / "exiting").write_text("yes")
+    iface.actionExit().trigger()
+
+
+QTimer.singleShot(500, main)
