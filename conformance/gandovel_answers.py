@@ -34,11 +34,11 @@ def exact(case: Dict[str, Any]) -> Dict[str, Any]:
         answer.update({"gaps_area2": "0", "beyond_area2": {}, "overlaps_area2": []})
         if "points" in case:
             lines = "".join(f"{x} {y}\n" for x, y in case["points"])
-            told = said([TOOL, "locate", *layers, *unit, "--points", "-"], lines).splitlines()
-            answer["points"] = [[int(x), int(y), text] for x, y, text in (line.split(" ", 2) for line in told)]
+            located = said([TOOL, "locate", *layers, *unit, "--points", "-"], lines).splitlines()
+            answer["points"] = [[int(x), int(y), text] for x, y, text in (line.split(" ", 2) for line in located)]
         if "zones" in case:
-            told_areas = said([TOOL, "overlay", *layers, case["zones"], "--areas", *unit])
-            rows = re.findall(r"^area (\d+) (\d+) (\d+)$", told_areas, re.M)
+            areas_of = said([TOOL, "overlay", *layers, case["zones"], "--areas", *unit])
+            rows = re.findall(r"^area (\d+) (\d+) (\d+)$", areas_of, re.M)
             answer["zones_area2"] = [[int(n), int(z), area] for n, z, area in rows]
     return answer
 

@@ -36,6 +36,8 @@ SQUARE: Ring = [(0, 0), (100, 0), (100, 100), (0, 100)]
 LEFT: Ring = [(0, 0), (60, 0), (60, 100), (0, 100)]
 RIGHT: Ring = [(60, 0), (100, 0), (100, 100), (60, 100)]
 Case = Tuple[str, str, Ring, List[Ring], List[Ring]]
+WITHOUT_SHAPEFILE = ("arcs between neighbours",)
+"""Ways of keeping a register that a shapefile has not: as chords, arcs that two parcels digitised differ."""
 
 
 def moved(ring: Sequence[Corner], x: int, y: int, factor: int = 1) -> Ring:
@@ -203,7 +205,7 @@ def kept_cases() -> Iterator[Dict[str, Any]]:
         if len(faults) >= LEAST_FAULTS and len(set(faults)) == 2:
             break
         seed += 1
-    for way in planted.CASES:
+    for way in (it for it in planted.CASES if it not in WITHOUT_SHAPEFILE):
         name = "kept-" + way.replace(" ", "-").lower()
         with tempfile.TemporaryDirectory() as folder:
             case = planted.case(way, seed, Path(folder))

@@ -1,39 +1,52 @@
 """The other programs: what each is asked, and what it says of a layer.
 
-Each gets the layer as a GeoPackage in metres and the distance by which its corners may be off their borders, which its
-user would have to know; Gandovel is not given it. Each answers the gaps and overlaps that it found, with the parcels
-beside each.
+Each gets the layer as a GeoPackage and the distance by which its corners may be off their borders, which its user would
+have to know; Gandovel is not given it. Each answers the gaps and overlaps that it found, with the parcels beside each,
+its place and its area where the program says them.
+
+A program is measured in a process of its own (`compare.measure`), so that its processor's seconds and its memory are
+its own, too.
 """
 
 from __future__ import annotations
 
 import json
+import math
 import os
 import subprocess
 import sys
 import tempfile
+from collections import defaultdict
 from dataclasses import dataclass
+from fractions import Fraction
 from pathlib import Path
-from typing import Callable, Dict, Iterable, List, Optional, Sequence, Tuple
+from typing import Callable, Dict, Iterable, List, NamedTuple, Optional, Sequence, Tuple
 
 import geopandas as gpd
 import numpy as np
+from shapely import wkb
 from shapely.geometry import Point, Polygon
 from shapely.geometry.base import BaseGeometry
 from shapely.ops import unary_union
 from shapely.strtree import STRtree
 
-Found = List[Tuple[str, Tuple[str, ...], Optional[BaseGeometry]]]
-"""Of each fault its kind, its parcels, and its place where the program says it."""
+from compare.database import Database
+
 ROOT = Path(__file__).resolve().parents[2]
-SQL_OF_OVERLAPS = """
-SELECT a.parcel_no, b.parcel_no FROM {table} a JOIN {table} b ON a.fid < b.fid AND a.geom && b.geom
-WHERE ST_Intersects(a.geom, b.geom) AND ST_Area(ST_Intersection(a.geom, b.geom)) > 0"""
-SQL_OF_GAPS = """
-WITH whole AS (SELECT (ST_Dump(ST_Union(geom))).geom AS geom FROM {table}),
-     rings AS (SELECT (ST_DumpRings(geom)).* FROM whole),
-     holes AS (SELECT row_number() OVER () AS hole, geom FROM rings WHERE path[1] > 0)
-SELECT h.hole, p.parcel_no FROM holes h JOIN {table} p ON ST_DWithin(h.geom, p.geom, {near})"""
+BESIDE = 0.001
+"""How near a parcel lies to a gap that it is beside, in the layer's unit: a program that says no parcels is asked for
+those within this."""
+SIDE = 30.0
+"""How long the sides of these parcels are, in metres: what their user would know."""
+
+
+class Said(NamedTuple):
+    """A fault that a program reports: kind, parcels, place, and area in the square of the layer's unit."""
+
+    kind: str
+    numbers: Tuple[str, ...]
+    place: Optional[BaseGeometry] = None
+    area: Optional[float] = None
 
 
 @dataclass(frozen=True)
@@ -43,7 +56,12 @@ class Peer:
     name: str
     asks: str
     """What its user gives it, and in how many commands."""
-    run: Callable[[Path, float], Found]
+    run: Callable[[Path, float, Path], List[Said]]
+    """Of a layer, the distance in its unit, and the folder of the built programs and the database."""
+    is_here: bool = False
+    """Whether it runs in this process, and not in those that it starts."""
+    reads_curves: bool = False
+    """Whether it is given the layer as it is kept; the others get its curves as the chords that GDAL makes."""
 
 
 def command(words: Sequence[object], given: str = "", **environment: str) -> str:
@@ -61,18 +79,21 @@ def command(words: Sequence[object], given: str = "", **environment: str) -> str
     return ran.stdout
 
 
-def gandovel(layer: Path, distance: float) -> Found:
+def gandovel(layer: Path, distance: float, built: Path) -> List[Said]:
     """`gandovel check`, which learns the rounding from the layer."""
-    said = command([sys.executable, "-m", "gandovel", "check", layer, "--json"], PYTHONPATH=str(ROOT / "python/src"))
-    return [(it["kind"], tuple(it["numbers"]), Point(it["x"], it["y"])) for it in json.loads(said)["faults"]]
-
-
-def grouped(rows: Iterable[Sequence[str]]) -> Found:
-    """Gaps by their number, each with the parcels of its rows."""
-    gaps: Dict[str, List[str]] = {}
-    for at, number in rows:
-        gaps.setdefault(at, []).append(number)
-    return [("gap", tuple(numbers), None) for numbers in gaps.values()]
+    said = json.loads(
+        command([sys.executable, "-m", "gandovel", "check", layer, "--json"], PYTHONPATH=str(ROOT / "python/src"))
+    )
+    unit = said["unit"]["metres"]
+    return [
+        Said(
+            it["kind"],
+            tuple(it["numbers"]),
+            Point(it["x"], it["y"]),
+            float(Fraction(it["area2_mm2"]) / 2_000_000) / unit**2,
+        )
+        for it in said["faults"]
+    ]
 
 
 class Near:
@@ -88,139 +109,134 @@ class Near:
         return sorted(int(at) for at in near if self.shapes[at].intersects(shape))
 
 
-def geos(layer: Path, distance: float) -> Found:
+def geos(layer: Path, distance: float, built: Path) -> List[Said]:
     """GeoPandas on GEOS: each pair whose intersection has an area, and the holes of the union."""
     frame = gpd.read_file(layer)
-    found: Found = []
+    found: List[Said] = []
     shapes, numbers = list(frame.geometry), list(frame["parcel_no"])
     tree = Near(shapes)
     for one, shape in enumerate(shapes):
         for other in tree.meeting(shape):
-            if one < other and shape.intersection(shapes[other]).area > 0:
-                found.append(("overlap", (numbers[one], numbers[other]), shape.intersection(shapes[other])))
+            common = shape.intersection(shapes[other]) if one < other else Polygon()
+            if common.area > 0:
+                found.append(Said("overlap", (numbers[one], numbers[other]), common, common.area))
     whole = unary_union(shapes)
     for part in getattr(whole, "geoms", [whole]):
-        for hole in part.interiors:
-            beside = tuple(numbers[at] for at in tree.meeting(Polygon(hole).buffer(0.001)))
-            found.append(("gap", beside, Polygon(hole)))
+        for hole in map(Polygon, part.interiors):
+            beside = tuple(numbers[at] for at in tree.meeting(hole.buffer(BESIDE)))
+            found.append(Said("gap", beside, hole, hole.area))
     return found
 
 
-class Database:
-    """A PostGIS server of our own, in a folder, on a socket; it ends with the run."""
-
-    def __init__(self) -> None:
-        self.folder = Path(tempfile.mkdtemp(prefix="compare-"))
-        self.bin = sorted(Path("/usr/lib/postgresql").glob("*/bin"))[-1]
-        self.folder.chmod(0o777)
-        self.as_postgres("initdb", "-D", self.folder / "data", "-A", "trust", "-U", "postgres")
-        options = f"-k {self.folder} -c listen_addresses='' -c fsync=off"
-        self.as_postgres("pg_ctl", "-D", self.folder / "data", "-o", options, "-l", self.folder / "log", "-w", "start")
-        self.sql("CREATE EXTENSION postgis; CREATE EXTENSION postgis_topology")
-
-    def as_postgres(self, program: str, *words: object) -> None:
-        """Runs a program of the server, which refuses to run as root."""
-        prefix = ["runuser", "-u", "postgres", "--"] if os.geteuid() == 0 else []
-        subprocess.run(
-            [*prefix, self.bin / program, *map(str, words)], check=True, stdout=subprocess.DEVNULL, cwd="/tmp"
-        )
-
-    def sql(self, text: str) -> List[List[str]]:
-        """The rows that a text of SQL answers."""
-        words = ["psql", "-h", self.folder, "-U", "postgres", "-qAtX", "-F", "\t", "-v", "ON_ERROR_STOP=1"]
-        ran = subprocess.run([str(it) for it in words], input=text, capture_output=True, text=True, check=False)
-        if ran.returncode:
-            raise RuntimeError(ran.stderr[-400:])
-        return [line.split("\t") for line in ran.stdout.splitlines()]
-
-    def take(self, layer: Path) -> None:
-        """Copies a layer into the table `parcels`."""
-        target = f"PG:host={self.folder} user=postgres"
-        options = [
-            "-nln",
-            "parcels",
-            "-overwrite",
-            "-lco",
-            "FID=fid",
-            "-lco",
-            "GEOMETRY_NAME=geom",
-            "-nlt",
-            "CONVERT_TO_LINEAR",
-        ]
-        command(["ogr2ogr", "-f", "PostgreSQL", target, layer, *options])
-
-    def stop(self) -> None:
-        """Ends the server."""
-        self.as_postgres("pg_ctl", "-D", self.folder / "data", "-m", "immediate", "stop")
-
-    def plain(self, layer: Path, distance: float) -> Found:
-        """Two statements of SQL over the layer as it is."""
-        self.take(layer)
-        overlaps: Found = [("overlap", (a, b), None) for a, b in self.sql(SQL_OF_OVERLAPS.format(table="parcels"))]
-        return overlaps + grouped((a, b) for a, b in self.sql(SQL_OF_GAPS.format(table="parcels", near=0.001)))
-
-    def topology(self, layer: Path, distance: float) -> Found:
-        """`toTopoGeom` with a tolerance: faces of no parcel are gaps, faces of two are overlaps."""
-        self.take(layer)
-        srid = self.sql("SELECT ST_SRID(geom) FROM parcels LIMIT 1")[0][0]
-        self.sql(
-            "DO $$ BEGIN PERFORM topology.DropTopology('net'); EXCEPTION WHEN OTHERS THEN NULL; END $$;"
-            f"SELECT topology.CreateTopology('net', {srid}, {distance});"
-            "SELECT topology.AddTopoGeometryColumn('net', 'public', 'parcels', 'topo', 'POLYGON');"
-            f"UPDATE parcels SET topo = topology.toTopoGeom(geom, 'net', 1, {distance});"
-        )
-        faces = (
-            "WITH owned AS (SELECT r.element_id AS face, p.parcel_no FROM net.relation r JOIN parcels p"
-            " ON (p.topo).id = r.topogeo_id WHERE r.element_type = 3) "
-        )
-        twice = self.sql(f"{faces} SELECT string_agg(parcel_no, ',') FROM owned GROUP BY face HAVING count(*) > 1")
-        none = self.sql(
-            f"{faces} SELECT f.face_id, o.parcel_no FROM net.face f"
-            " JOIN net.edge_data e ON f.face_id IN (e.left_face, e.right_face)"
-            " JOIN owned o ON o.face IN (e.left_face, e.right_face)"
-            " WHERE f.face_id > 0 AND f.face_id NOT IN (SELECT face FROM owned)"
-        )
-        return [("overlap", tuple(row[0].split(",")), None) for row in twice] + grouped((a, b) for a, b in none)
+def jts(layer: Path, distance: float, built: Path) -> List[Said]:
+    """`JtsFaults.java`, over the layer's shapes as hexadecimal well-known binary."""
+    frame = gpd.read_file(layer)
+    given = "".join(f"{number} {shape.wkb_hex}\n" for number, shape in zip(frame["parcel_no"], frame.geometry))
+    path = f"{built}:/usr/share/java/jts-core.jar"
+    return lines_of(command(["java", "-XX:+UseSerialGC", "-cp", path, "JtsFaults", distance], given))
 
 
-def grass(layer: Path, distance: float) -> Found:
+def qgis(layer: Path, distance: float, built: Path) -> List[Said]:
+    """`qgis_checker.cpp`: the checks *gap* and *overlap* of the plugin Geometry Checker, with its tolerance, which is
+    so many decimals."""
+    decimals = max(0, math.ceil(-math.log10(distance)))
+    numbers = {str(fid): number for fid, number in numbers_by_fid(layer).items()}
+    said = lines_of(command([built / "qgis_checker", layer, decimals], QT_QPA_PLATFORM="offscreen"))
+    return [it._replace(numbers=tuple(numbers[fid] for fid in it.numbers)) for it in said]
+
+
+def numbers_by_fid(layer: Path) -> Dict[int, str]:
+    """The parcels' numbers by GDAL's identifiers."""
+    import sqlite3
+
+    with sqlite3.connect(layer) as file:
+        return dict(file.execute("SELECT fid, parcel_no FROM parcels").fetchall())
+
+
+def lines_of(text: str) -> List[Said]:
+    """The faults that the small programs here print: `KIND NUMBER,NUMBER.. AREA SHAPE`, a line each, the shape as
+    hexadecimal well-known binary."""
+    rows = (line.split(" ") for line in text.splitlines())
+    return [
+        Said(kind, tuple(numbers.split(",")) if numbers else (), wkb.loads(shape, hex=True), float(area))
+        for kind, numbers, area, shape in rows
+    ]
+
+
+def grass(layer: Path, distance: float, built: Path) -> List[Said]:
     """`v.in.ogr snap=`: areas without a category are gaps, areas with several are overlaps."""
     with tempfile.TemporaryDirectory(prefix="compare-grass-") as name:
         place = Path(name) / "place"
         command(["grass", "-c", layer, "-e", place])
         base = ["grass", place / "PERMANENT", "--exec"]
         command([*base, "v.in.ogr", f"input={layer}", "output=p", f"snap={distance}", "--quiet", "--overwrite"])
-        table = {
-            row[0]: row[1]
-            for row in rows_of(command([*base, "v.db.select", "p", "columns=cat,parcel_no", "-c", "separator=,"]))
-        }
-        exported = Path(name) / "areas.gpkg"
-        command([*base, "v.out.ogr", "-c", "input=p", f"output={exported}", "format=GPKG", "type=area", "--quiet"])
-        cats = rows_of(command([*base, "v.category", "input=p", "option=print", "type=centroid", "--quiet"]))
-        several = [row[0].split("/") for row in cats if "/" in row[0]]
-        found: Found = [("overlap", tuple(table[it] for it in row if it in table), None) for row in several]
-        areas = gpd.read_file(exported)
-        tree = Near(list(areas.geometry))
-        for _, gap in areas[areas["cat"].isna()].iterrows():
-            beside = tree.meeting(gap.geometry.buffer(0.001))
-            numbers = {
-                table.get(str(int(areas["cat"].iloc[at]))) for at in beside if not np.isnan(areas["cat"].iloc[at])
-            }
-            found.append(("gap", tuple(sorted(it for it in numbers if it)), gap.geometry))
-        return found
+        return areas_of(base, "p", Path(name))
 
 
-def rows_of(text: str) -> List[List[str]]:
-    """Lines of a program, by their commas."""
-    return [line.split(",") for line in text.splitlines() if line]
+def grass_clean(layer: Path, distance: float, built: Path) -> List[Said]:
+    """`v.in.ogr` as it is, then `v.clean tool=rmarea`: areas below the distance times a parcel's side are given to the
+    neighbour with the longest border; what is left is read as above."""
+    unit = gpd.read_file(layer, rows=1).crs.axis_info[0].unit_conversion_factor
+    least = distance * unit * SIDE
+    with tempfile.TemporaryDirectory(prefix="compare-grass-") as name:
+        place = Path(name) / "place"
+        command(["grass", "-c", layer, "-e", place])
+        base = ["grass", place / "PERMANENT", "--exec"]
+        command([*base, "v.in.ogr", f"input={layer}", "output=raw", "--quiet", "--overwrite"])
+        command([*base, "v.clean", "input=raw", "output=p", "tool=rmarea", f"threshold={least}", "--quiet"])
+        return areas_of(base, "p", Path(name))
 
 
-def peers(database: Database) -> List[Peer]:
-    """All that are compared."""
+def areas_of(base: Sequence[object], name: str, folder: Path) -> List[Said]:
+    """What the areas of a map of GRASS say: those of no parcel, and those of several."""
+    numbers = dict(
+        line.split(",")[:2]
+        for line in command([*base, "v.db.select", name, "columns=cat,parcel_no", "-c", "separator=,"]).splitlines()
+    )
+    exported = folder / "areas.gpkg"
+    command([*base, "v.out.ogr", "-c", f"input={name}", f"output={exported}", "format=GPKG", "type=area", "--quiet"])
+    areas = gpd.read_file(exported)
+    tree, owners = Near(list(areas.geometry)), defaultdict(list)
+    for shape, cat in zip(areas.geometry, areas["cat"]):
+        owners[shape.wkb].append((shape, None if np.isnan(cat) else numbers.get(str(int(cat)))))
+    found = []
+    for rows in owners.values():
+        shape, names = rows[0][0], sorted({number for _, number in rows if number})
+        if len(names) > 1:
+            found.append(Said("overlap", tuple(names), shape, shape.area))
+        elif not names:
+            near = (areas["cat"].iloc[at] for at in tree.meeting(shape.buffer(BESIDE)))
+            beside = {numbers[str(int(cat))] for cat in near if not np.isnan(cat)}
+            found.append(Said("gap", tuple(sorted(beside)), shape, shape.area))
+    return found
+
+
+def plain(layer: Path, distance: float, built: Path) -> List[Said]:
+    """Two statements of SQL in PostGIS over the layer as it is."""
+    return rows_said(Database(built).faults_by_sql(BESIDE))
+
+
+def topology(layer: Path, distance: float, built: Path) -> List[Said]:
+    """PostGIS's `toTopoGeom` with a tolerance: faces of no parcel are gaps, faces of several are overlaps."""
+    return rows_said(Database(built).faults_by_topology(distance))
+
+
+def rows_said(rows: Iterable[Sequence[str]]) -> List[Said]:
+    """Faults of rows of KIND, NUMBERS, X, Y, AREA."""
     return [
-        Peer("Gandovel", "the layer; one command", gandovel),
-        Peer("GEOS", "the layer; ten lines of Python", geos),
-        Peer("PostGIS, SQL", "the layer; two statements", database.plain),
-        Peer("PostGIS topology", "the layer and the distance; five statements", database.topology),
-        Peer("GRASS", "the layer and the distance; four commands", grass),
+        Said(kind, tuple(numbers.split(",")), Point(float(x), float(y)), float(area))
+        for kind, numbers, x, y, area in rows
     ]
+
+
+PEERS = [
+    Peer("Gandovel", "the layer; one command", gandovel, reads_curves=True),
+    Peer("GEOS 3.11", "the layer; ten lines of Python", geos, is_here=True),
+    Peer("JTS 1.19", "the layer and the distance; 100 lines of Java", jts),
+    Peer("QGIS 3.22, Geometry Checker", "the layer and the distance as decimals; two checks in a window", qgis),
+    Peer("PostGIS 3.3, SQL", "the layer; two statements", plain),
+    Peer("PostGIS 3.3, topology", "the layer and the distance; five statements", topology),
+    Peer("GRASS 8.2, `v.in.ogr snap=`", "the layer and the distance; four commands", grass),
+    Peer("GRASS 8.2, `v.clean`", "the layer and the least area of a fault; five commands", grass_clean),
+]
+"""All that are compared."""

@@ -51,24 +51,38 @@ class Case:
     options: Dict[str, Any] = field(default_factory=dict)
     there: Callable[[gpd.GeoDataFrame], gpd.GeoDataFrame] = lambda frame: frame
 
-    def judged(self, told: Iterable[Tuple[str, Sequence[str], Optional[BaseGeometry]]]) -> "Counts":
-        """What was told, as kind, numbers and place of each fault (None where none is told), beside what is planted.
+    def matched(self, told: Iterable[Tuple[str, Sequence[str], Optional[BaseGeometry]]]) -> List[Optional[int]]:
+        """Of each fault that was reported, as kind, numbers and place (None where none is reported), which planted one
+        it is; None where it is none.
 
-        A planted one is found where kind, parcels and place are its own.
+        It is one where kind, parcels and place are its own, and no other was before it.
         """
         left = {at: fault for at, fault in enumerate(self.planted)}
         shapes = gpd.GeoDataFrame(geometry=[it.shape for it in self.planted], crs=METRIC)
         places = list(self.there(shapes).geometry) if self.planted else []
         apart = 2 * self.distance / (304.8 if self.crs == FEET else 1000.0)
-        false = 0
+        found: List[Optional[int]] = []
         for kind, numbers, place in told:
             same = (at for at, it in left.items() if it.kind == kind and set(it.numbers) <= set(numbers))
-            at = next((at for at in same if place is None or places[at].distance(place) <= apart), None)
-            if at is None:
-                false += 1
-            else:
-                del left[at]
-        return Counts(len(self.planted) - len(left), len(left), false)
+            found.append(next((at for at in same if place is None or places[at].distance(place) <= apart), None))
+            left.pop(found[-1], None)
+        return found
+
+    def judged(self, told: Iterable[Tuple[str, Sequence[str], Optional[BaseGeometry]]]) -> "Counts":
+        """How many of the planted faults were reported, how many not, and how many that are none."""
+        found = self.matched(told)
+        count = sum(it is not None for it in found)
+        return Counts(count, len(self.planted) - count, len(found) - count)
+
+    def kept_area(self, at: int, kept: gpd.GeoDataFrame) -> float:
+        """The area of a planted fault in the layer as it is kept: of the ring of those corners of its two parcels that
+        lie nearest to where it was planted."""
+        fault = self.planted[at]
+        rows = kept[kept["parcel_no"].isin(fault.numbers)].geometry
+        corners = np.concatenate([np.asarray(shape.exterior.coords)[:, :2] for shape in rows])
+        planted = self.there(gpd.GeoDataFrame(geometry=[fault.shape], crs=METRIC)).geometry.iloc[0].exterior.coords
+        nearest = [corners[np.hypot(*(corners - corner).T).argmin()] for corner in np.asarray(planted)[:-1, :2]]
+        return Polygon(nearest).area
 
 
 @dataclass
