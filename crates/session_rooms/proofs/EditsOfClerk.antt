@@ -1,13 +1,13 @@
 -- Edits of a clerk's file that are made one after the other.
 use Rattle.std.proofs.Common.{◌≡◌, ◌⊎◌, inl, inr, refl, sym, ap, ◌∙◌, subst, ℕ, suc, List, [], ◌∷◌, ◌++◌, map, take, drop}
-use Rattle.std.proofs.Common.{append_assoc, append-nil}
+use Rattle.std.proofs.Common.{append_assoc, append-nil, Result, Ok, Err}
 use Rattle.std.proofs.lemmas.List.{map-append}
 use Rattle.ring_edits.specs.declared.edit.Edit.{Edit}
 use Rattle.fabric_core.specs.Journal.{JournalEntry, Book}
 use Rattle.fabric_core.specs.declared.refusal.Refusal.{Refusal}
 use Rattle.fabric_core.specs.declared.refusal.Refusal.TheVariants.{NoMemory}
-use Rattle.fabric_core.specs.Refusals.{IsRefusal}
-use Rattle.session_rooms.specs.ClerkEdits.{AreMadeBy, IsStoppedIn}
+use Rattle.fabric_core.specs.Refusals.{IsRefusal, NeedsNoMemory}
+use Rattle.session_rooms.specs.ClerkEdits.{AreMadeBy, IsStoppedIn, IsShortIn}
 
 module _ {A : Type 0} where
   -- none
@@ -57,3 +57,25 @@ stopped clerk edits i said before mid after refusal is made same (inl h) =
       is_refusal = h;
     }))
 stopped clerk edits i said before mid after refusal is made same (inr h) = inr h
+
+-- the error of an answer
+abbrev error_or : {T E : Type 0} → E → Result T E → E
+error_or default (Ok value) = default
+error_or default (Err error) = error
+
+-- and what stops them where memory is refused: nothing is due then that is told whatever memory there is
+pub short : {A T : Type 0} (clerk : ℕ) (edits : List (ℕ × Edit A)) (i : ℕ) (said : ℕ × Edit A) (before mid after : Book A)
+    (refusal : Refusal) → edits ≡ take i edits ++ said ∷ drop (suc i) edits → AreMadeBy clerk (take i edits) before mid
+    → after ≡ mid
+    → ((due : Refusal) → IsRefusal mid.now mid.journal said.1 due → NeedsNoMemory due
+    → ◌≡◌ {A = Result T Refusal} (Err refusal) (Err due))
+    → refusal ≡ NoMemory → IsShortIn clerk edits before after
+short clerk edits i said before mid after refusal is made same exact none =
+    subst (λ book. IsShortIn clerk edits before book) (sym same) (record {
+      made = take i edits;
+      short = said;
+      rest = drop (suc i) edits;
+      are_all = is;
+      are_made = made;
+      is_not_due = λ due h alone. subst NeedsNoMemory (sym (ap (error_or due) (exact due h alone)) ∙ none) alone;
+    })

@@ -1,3 +1,4 @@
+pub mod Brought
 pub mod Cards
 pub mod ClientWords
 pub mod DeskAnswers

@@ -11,10 +11,11 @@ use Rattle.fabric_core.specs.EditResults.{IsLawful}
 use Rattle.fabric_core.specs.Journal.{JournalEntry, replay}
 use Rattle.fabric_core.specs.Locate.{IsLocatedAt}
 use Rattle.fabric_core.specs.declared.locate.At.{At}
+use Rattle.fabric_core.specs.Refusals.{NeedsNoMemory}
 use Rattle.fabric_core.specs.declared.refusal.Refusal.{Refusal}
 use Rattle.fabric_core.specs.declared.refusal.Refusal.TheVariants.{NoMemory as RefusedForMemory}
 use Rattle.desk_lock.specs.Offices.{OfficeId, CardState, WindowState, EndsWith, IsSometime, Learns, IsRefusedWhenMet}
-use Rattle.desk_lock.specs.Offices.{journal_met, with_made, with_met}
+use Rattle.desk_lock.specs.Offices.{IsDueWhenMet, journal_met, with_made, with_met}
 use Rattle.desk_lock.specs.declared.window.LocateFault.{LocateFault}
 use Rattle.desk_lock.specs.declared.window.LocateFault.TheVariants.{NoVersion as NoVersionFound}
 use Rattle.desk_lock.specs.declared.window.LocateFault.TheVariants.{NoMemory as NoMemoryFound}
@@ -30,6 +31,7 @@ use Rattle.session_lines.specs.declared.line.Line.TheVariants.{Overlay}
 use Rattle.session_lines.specs.declared.line.Line.TheVariants.{OverlayAreas, Check, Export, Publish, Close}
 use Rattle.session_rooms.specs.Asked.{IsAskedBy, IsUnasked}
 use Rattle.session_rooms.specs.Kept.{IsOnDisk}
+use Rattle.session_rooms.specs.Rooms.{IsUnkept}
 use Rattle.session_rooms.specs.declared.answers.Asked.{Asked}
 use Rattle.session_rooms.specs.declared.answers.Chair.{Chair}
 use Rattle.session_rooms.specs.declared.lines.Came.{Came}
@@ -133,19 +135,23 @@ module _ {A : Type 0} where
   IsPlainLine window Publish line = IsErrorLine OperatorOnly line
   IsPlainLine window Close line = IsErrorLine OperatorOnly line
 
-  -- it was refused, for a reason that is due after exactly the journal that the card has met then
+  -- it was refused, for a reason that is due after exactly the journal that the card has met then; what is due is told,
+  -- unless memory runs out, and some reasons are told whatever memory there is
   pub record IsRefusedAnswer (office : OfficeId A) (before after : CardState A) (edit : Edit A)
       (line : List ℕ) : Type 0 where
     pub refusal : Refusal
     pub is_due : IsRefusedWhenMet office after edit refusal ⊎ (refusal ≡ RefusedForMemory)
+    pub refuses : (due : Refusal) → IsDueWhenMet office after edit due → (refusal ≡ due) ⊎ (refusal ≡ RefusedForMemory)
+    pub exact : (due : Refusal) → IsDueWhenMet office after edit due → NeedsNoMemory due → refusal ≡ due
     pub unchanged : after ≡ with_met before after.met
     pub told : line ≡ refused_line refusal
 
-  -- no edit was made: `refused ..`; or that the journal failed, where there is one; or that memory ran out
+  -- no edit was made and kept: `refused ..`; or that the journal failed, where there is one, before the edit was made
+  -- or behind it; or that memory ran out for its line, before the office was asked
   abbrev pub IsUnmadeLine : {T : Type 0} → OfficeId A → Option T → CardState A → CardState A → Edit A → List ℕ → Type 0
   IsUnmadeLine office journal before after edit line = IsRefusedAnswer office before after edit line
-      ⊎ ((IsErrorLine JournalFailed line × IsSome journal)
-      ⊎ (IsErrorLine NoMemory line × (after ≡ with_met before after.met)))
+      ⊎ ((IsErrorLine JournalFailed line × IsSome journal × IsUnkept office before after edit)
+      ⊎ (IsErrorLine NoMemory line × (after ≡ before)))
 
 -- what was shown of an edit that was made
 abbrev pub shown_of : {H J : Type 0} → Option (Made H J) → Option (List (JournalEntry (Bor H)))

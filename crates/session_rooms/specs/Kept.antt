@@ -5,6 +5,7 @@ use Rattle.journal_records.specs.declared.record.Stamp.{Stamp}
 use Rattle.journal_writers.specs.Writers.{WriterState, HasOneMore}
 use Rattle.fabric_core.specs.Journal.{JournalEntry}
 use Rattle.journal_writers.specs.declared.synced.DiskHas.{DiskHas}
+use Rattle.journal_writers.specs.declared.file_id.FileId.{FileId}
 
 -- a journal has one record more: that of this entry
 pub record IsRecorded {A : Type 0} (before after : WriterState) (entry : JournalEntry A) : Type 0 where
@@ -24,3 +25,11 @@ abbrev pub IsOnDisk : {J : Type 0} → Option J → Option DiskHas → ℕ → T
 IsOnDisk None on_disk number = ⊤
 IsOnDisk (Some journal) None number = ⊥
 IsOnDisk (Some journal) (Some on_disk) number = number ≤ on_disk.records
+
+-- a synchronisation has brought at least so many records of this file to the disk
+abbrev pub AreBrought : (FileId → ℕ → Type 0) → FileId → ℕ → Type 0
+AreBrought brought file number = (records : ℕ) × brought file records × (number ≤ records)
+
+-- so many are all that a synchronisation has brought of this file, or more
+abbrev pub HasBrought : (FileId → ℕ → Type 0) → FileId → ℕ → Type 0
+HasBrought brought file number = (records : ℕ) × brought file records × (records ≤ number)

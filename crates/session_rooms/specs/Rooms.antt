@@ -1,10 +1,11 @@
 -- What a session's room answers where an edit is not made, or nothing is shown, and the sheets that it draws (this
 -- product's own).
 use Rattle.std.specs.Prelude.{◌≡◌, ◌⊎◌, [], Option, IsSome}
+use Rattle.ring_edits.specs.declared.edit.Edit.{Edit}
 use Rattle.fabric_core.specs.EditResults.{IsLawful}
-use Rattle.fabric_core.specs.Journal.{Book, replay}
+use Rattle.fabric_core.specs.Journal.{JournalEntry, Book, replay}
 use Rattle.fabric_core.specs.Tiling.{IsTiling}
-use Rattle.desk_lock.specs.Offices.{OfficeId, IsSheetOf}
+use Rattle.desk_lock.specs.Offices.{OfficeId, CardState, EndsWith, IsSheetOf, journal_met, with_made}
 use Rattle.fabric_core.specs.declared.refusal.Refusal.{Refusal}
 use Rattle.session_lines.specs.declared.faults.SessionFault.{SessionFault}
 use Rattle.session_lines.specs.declared.faults.SessionFault.TheVariants.{JournalFailed, NoMemory as WantsMemory}
@@ -28,6 +29,20 @@ abbrev pub IfJournalFails : EditFault → Type 0 → Type 0
 IfJournalFails (Refused refusal) holds = Unit {0}
 IfJournalFails Journal holds = holds
 IfJournalFails NoMemory holds = Unit {0}
+
+-- where memory was refused for the edit's line
+abbrev pub IfNoLine : EditFault → Type 0 → Type 0
+IfNoLine (Refused refusal) holds = Unit {0}
+IfNoLine Journal holds = Unit {0}
+IfNoLine NoMemory holds = holds
+
+module _ {A : Type 0} where
+  -- an edit that no journal keeps: the office was not asked; or it made the edit, whose entry ends the journal that the
+  -- card has met then
+  abbrev pub IsUnkept : OfficeId A → CardState A → CardState A → Edit A → Type 0
+  IsUnkept office before after edit = (after ≡ before)
+      ⊎ ((entry : JournalEntry A) × (entry.edit ≡ edit) × (entry.clerk ≡ before.clerk)
+      × (after ≡ with_made before entry after.met) × EndsWith entry entry.number (journal_met office after))
 
 -- the room's journal could not be written, where it has one
 abbrev pub IsJournalFault : {T : Type 0} → Option T → SessionFault → Type 0

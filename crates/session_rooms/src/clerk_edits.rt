@@ -2,7 +2,7 @@
 
 ghost use Rattle.std.specs.Prelude.{◌≡◌, ◌⊎◌, IfErr, OnOk};
 ghost use Rattle.fabric_core.specs.declared.refusal.Refusal.TheVariants.{NoMemory as NoRoom};
-ghost use Rattle.session_rooms.specs.ClerkEdits.{AreMadeOf, AreMadeBy, IsStoppedIn, IsEditsFault};
+ghost use Rattle.session_rooms.specs.ClerkEdits.{AreMadeOf, AreMadeBy, IsStoppedIn, IsShortIn, IsEditsFault};
 ghost use Rattle.session_rooms.specs.Kept.{HasRecords};
 
 use fabric_core::{Entry, Fabric, Refusal};
@@ -59,6 +59,8 @@ fn make_all<'h, H: Allocator>(
     ensures ok { OnOk result (AreMadeBy EDITS_CLERK edits.now fabric.old fabric.new) }
     ensures refused { IfErr result (λ refused.
         IsStoppedIn EDITS_CLERK edits.now fabric.old fabric.new refused.0 refused.1 ⊎ (refused.1 ≡ NoRoom)) }
+    ensures memory { IfErr result (λ refused.
+        refused.1 ≡ NoRoom → IsShortIn EDITS_CLERK edits.now fabric.old fabric.new) }
 {
     for said in edits {
         if let Err(refusal) = fabric.edit(EDITS_CLERK, &said.1) {

@@ -114,6 +114,21 @@ impl<F: JournalFile, A: Allocator, K: Clocked> Journal<F, A, K> {
         self.sync_to(rt, records)
     }
 
+    /// What the disk has of this journal's file, where that are so many records.
+    pub(crate) fn brought<R: Wait>(&self, rt: &R, number: u64) -> Option<OnDisk<K>>
+        ensures records { IfSome result (λ on_disk. number ≤ on_disk.records) }
+        ensures file { IfSome result (λ on_disk. on_disk.file ≡ K.of self.now.synchroniser) }
+    {
+        let Some(on_disk) = self.own(self.synced(rt)) else {
+            return None;
+        };
+        if number <= on_disk.records() {
+            Some(on_disk)
+        } else {
+            None
+        }
+    }
+
     /// What the disk has for certain.
     pub(crate) fn synced<R: Wait>(&self, rt: &R) -> OnDisk<K> {
         self.synced.lock(rt).on_disk()

@@ -3,19 +3,21 @@
 ghost use Rattle.std.specs.Prelude.{◌≡◌, ◌⊎◌, ◌↔◌, ◌≤◌, [], length, true, IfOk, IfErr, IfSome, IsSome};
 ghost use mathlib.Core.List.{IsPrefix};
 ghost use Rattle.fabric_core.specs.EditResults.{IsLawful};
+ghost use Rattle.fabric_core.specs.declared.refusal.Refusal.{Refusal as RefusalValue};
+ghost use Rattle.fabric_core.specs.Refusals.{NeedsNoMemory};
 ghost use Rattle.desk_lock.specs.Offices.{with_made, with_met, journal_met, EndsWith, IsSometime, IsRefusedWhenMet};
-ghost use Rattle.desk_lock.specs.Offices.{AreOfClerks, behind};
+ghost use Rattle.desk_lock.specs.Offices.{AreOfClerks, behind, IsDueWhenMet};
 ghost use Rattle.session_rooms.specs.DeskAnswers.{IsCardLater};
-ghost use Rattle.session_rooms.specs.Rooms.{IsDrawn, IfRefused, UnlessJournalFails, IfJournalFails, IsJournalFault};
-ghost use Rattle.session_rooms.specs.Rooms.{IsRoomFault};
-ghost use Rattle.session_rooms.specs.Kept.{IsRecorded, IsOnDisk};
+ghost use Rattle.session_rooms.specs.Rooms.{IsDrawn, IfRefused, UnlessJournalFails, IfJournalFails};
+ghost use Rattle.session_rooms.specs.Rooms.{IsRoomFault, IfNoLine, IsUnkept};
+ghost use Rattle.session_rooms.specs.Kept.{IsRecorded, IsOnDisk, AreBrought, HasBrought};
 
 use crate::door::Door;
 use crate::journal::{Clocked, Journal};
 use desk_lock::{Card, Naming, Notice, Office};
 use fabric_core::{Entry, Refusal, Sheet};
 use journal_records::Stamp;
-use journal_writers::{DiskHas, JournalFile, JournalWriter};
+use journal_writers::{DiskHas, JournalFile, JournalWriter, OnDisk};
 use ring_edits::Edit;
 use session_lines::SessionFault;
 use std::alloc::Allocator;
@@ -137,8 +139,11 @@ impl<'r, 'h, H: Allocator, J: Naming<H>, R: Wait, F: JournalFile, K: Clocked> Ro
         // What the notice tells is valid, and reaches the entry.
         ensures told { IfOk result (λ made. IfSome made.notice (λ told. made.entry.number ≤ length told)) }
         ensures lawful { IfOk result (λ made. IfSome made.notice (IsLawful J.office.origin.opening)) }
-        // Where there is a journal, the disk has the entry's record.
+        // Where there is a journal, the disk has the entry's record, and those of all entries that the notice tells: a
+        // synchronisation of the journal's own file has brought them.
         ensures on_disk { IfOk result (λ made. IsOnDisk self.now.journal made.on_disk made.entry.number) }
+        ensures kept { IfOk result (λ made. IfSome self.now.journal (λ journal. IfSome made.notice (λ told.
+            AreBrought K.brought (K.of journal.synchroniser) (length told)))) }
         // The card is its clerk's, as before, and has met what it had met.
         ensures card { IsCardLater card.old card.new }
         // A refused edit changes nothing, but that the card has met the journal, after which it is refused for this.
@@ -146,30 +151,45 @@ impl<'r, 'h, H: Allocator, J: Naming<H>, R: Wait, F: JournalFile, K: Clocked> Ro
             (card.new ≡ with_met card.old card.new.met)) }
         ensures refusal { IfErr result (λ fault. IfRefused fault (λ refusal.
             IsRefusedWhenMet J.office card.new edit.now refusal ⊎ (refusal ≡ Refusal.NoMemory))) }
+        // What is due is told, unless memory runs out; E9, E1 to E5, E7 and E11 are told whatever memory there is.
+        ensures refuses { IfErr result (λ fault. IfRefused fault (λ refusal.
+            (due : RefusalValue) → IsDueWhenMet J.office card.new edit.now due
+            → (refusal ≡ due) ⊎ (refusal ≡ Refusal.NoMemory))) }
+        ensures exact { IfErr result (λ fault. IfRefused fault (λ refusal.
+            (due : RefusalValue) → IsDueWhenMet J.office card.new edit.now due → NeedsNoMemory due
+            → refusal ≡ due)) }
+        // Where memory is refused for its line, or the journal fails before, the office is not asked; else a journal
+        // that fails has no record of an edit that is made.
+        ensures unasked { IfErr result (λ fault. IfNoLine fault (card.new ≡ card.old)) }
+        ensures unkept { IfErr result (λ fault. IfJournalFails fault
+            (IsUnkept J.office card.old card.new edit.now)) }
         // Only a journal that there is can fail.
         ensures journal { IfErr result (λ fault. IfJournalFails fault (IsSome self.now.journal)) }
     {
-        let made = match &self.journal {
-            Some(journal) => match self.keep(journal, card, who, edit) {
-                Ok((entry, on_disk)) => Ok((entry, Some(on_disk))),
-                Err(fault) => Err(fault),
-            },
-            None => match self.enter(card, edit) {
-                Ok(entry) => Ok((entry, None)),
-                Err(fault) => Err(fault),
-            },
+        let Some(journal) = &self.journal else {
+            let entered = self.enter(card, edit);
+            let entry = match entered {
+                Ok(entry) => entry,
+                Err(fault) => return Err(fault),
+            };
+            let notice = self.office.publish_to(self.rt, entry.number());
+            return Ok(Made {
+                entry,
+                on_disk: None,
+                notice,
+            });
         };
-        match made {
-            Ok((entry, on_disk)) => {
-                let notice = self.office.publish_to(self.rt, entry.number());
-                Ok(Made {
-                    entry,
-                    on_disk,
-                    notice,
-                })
-            }
-            Err(fault) => Err(fault),
-        }
+        let kept = self.keep(journal, card, who, edit);
+        let (entry, on_disk) = match kept {
+            Ok(made) => made,
+            Err(fault) => return Err(fault),
+        };
+        let notice = self.show_kept(journal, entry.number());
+        Ok(Made {
+            entry,
+            on_disk: Some(on_disk),
+            notice,
+        })
     }
 
     /// Makes an edit at the office, and shows it to nobody.
@@ -188,6 +208,13 @@ impl<'r, 'h, H: Allocator, J: Naming<H>, R: Wait, F: JournalFile, K: Clocked> Ro
             (card.new ≡ with_met card.old card.new.met)) }
         ensures refusal { IfErr result (λ fault. IfRefused fault (λ refusal.
             IsRefusedWhenMet J.office card.new edit.now refusal ⊎ (refusal ≡ Refusal.NoMemory))) }
+        ensures refuses { IfErr result (λ fault. IfRefused fault (λ refusal.
+            (due : RefusalValue) → IsDueWhenMet J.office card.new edit.now due
+            → (refusal ≡ due) ⊎ (refusal ≡ Refusal.NoMemory))) }
+        ensures exact { IfErr result (λ fault. IfRefused fault (λ refusal.
+            (due : RefusalValue) → IsDueWhenMet J.office card.new edit.now due → NeedsNoMemory due
+            → refusal ≡ due)) }
+        ensures asked { IfErr result (λ fault. IfNoLine fault ⊥) }
         ensures no_journal { IfErr result (λ fault. IfJournalFails fault ⊥) }
     {
         match self.office.enter(self.rt, card, edit) {
@@ -198,7 +225,7 @@ impl<'r, 'h, H: Allocator, J: Naming<H>, R: Wait, F: JournalFile, K: Clocked> Ro
 
     /// Makes an edit at the office, and has the disk hold its record. Nobody else makes one between the two, but others
     /// may while this one waits for the disk.
-    #[tactic(auto, using(crate::proofs::Cards::same_card))]
+    #[tactic(auto, using(crate::proofs::Cards::same_card, crate::proofs::Rooms::made_unkept))]
     fn keep(
         &self,
         journal: &Journal<F, &'h H, K>,
@@ -216,6 +243,15 @@ impl<'r, 'h, H: Allocator, J: Naming<H>, R: Wait, F: JournalFile, K: Clocked> Ro
             (card.new ≡ with_met card.old card.new.met)) }
         ensures refusal { IfErr result (λ fault. IfRefused fault (λ refusal.
             IsRefusedWhenMet J.office card.new edit.now refusal ⊎ (refusal ≡ Refusal.NoMemory))) }
+        ensures refuses { IfErr result (λ fault. IfRefused fault (λ refusal.
+            (due : RefusalValue) → IsDueWhenMet J.office card.new edit.now due
+            → (refusal ≡ due) ⊎ (refusal ≡ Refusal.NoMemory))) }
+        ensures exact { IfErr result (λ fault. IfRefused fault (λ refusal.
+            (due : RefusalValue) → IsDueWhenMet J.office card.new edit.now due → NeedsNoMemory due
+            → refusal ≡ due)) }
+        ensures unasked { IfErr result (λ fault. IfNoLine fault (card.new ≡ card.old)) }
+        ensures unkept { IfErr result (λ fault. IfJournalFails fault
+            (IsUnkept J.office card.old card.new edit.now)) }
         ensures on_disk { IfOk result (λ made. made.0.number ≤ made.1.records) }
     {
         let Some(mut writer) = journal.take(self.rt) else {
@@ -239,7 +275,7 @@ impl<'r, 'h, H: Allocator, J: Naming<H>, R: Wait, F: JournalFile, K: Clocked> Ro
     }
 
     /// Makes an edit at the office, and adds its record to the journal, which is taken.
-    #[tactic(auto, using(crate::proofs::Cards::same_card))]
+    #[tactic(auto, using(crate::proofs::Cards::same_card, crate::proofs::Rooms::made_unkept))]
     fn enter_and_record(
         &self,
         writer: &mut JournalWriter<F, &'h H>,
@@ -258,6 +294,15 @@ impl<'r, 'h, H: Allocator, J: Naming<H>, R: Wait, F: JournalFile, K: Clocked> Ro
             (card.new ≡ with_met card.old card.new.met)) }
         ensures refusal { IfErr result (λ fault. IfRefused fault (λ refusal.
             IsRefusedWhenMet J.office card.new edit.now refusal ⊎ (refusal ≡ Refusal.NoMemory))) }
+        ensures refuses { IfErr result (λ fault. IfRefused fault (λ refusal.
+            (due : RefusalValue) → IsDueWhenMet J.office card.new edit.now due
+            → (refusal ≡ due) ⊎ (refusal ≡ Refusal.NoMemory))) }
+        ensures exact { IfErr result (λ fault. IfRefused fault (λ refusal.
+            (due : RefusalValue) → IsDueWhenMet J.office card.new edit.now due → NeedsNoMemory due
+            → refusal ≡ due)) }
+        ensures unasked { IfErr result (λ fault. IfNoLine fault (card.new ≡ card.old)) }
+        ensures unkept { IfErr result (λ fault. IfJournalFails fault
+            (IsUnkept J.office card.old card.new edit.now)) }
         // The journal has one record more, which is the entry's; a refused edit has none.
         ensures recorded { IfOk result (λ entry. IsRecorded writer.old writer.new entry) }
         ensures no_record { IfErr result (λ fault. UnlessJournalFails fault (writer.new ≡ writer.old)) }
@@ -284,39 +329,70 @@ impl<'r, 'h, H: Allocator, J: Naming<H>, R: Wait, F: JournalFile, K: Clocked> Ro
         Ok(entry)
     }
 
+    /// Shows the entries up to this number, where the disk has their records, and tells of no entry whose record it has
+    /// not.
+    #[tactic(auto, using(crate::proofs::Brought::are_brought))]
+    fn show_kept(&self, journal: &Journal<F, &'h H, K>, number: u64) -> Option<Notice<'h, H, J>>
+        ensures lawful { IfSome result (IsLawful J.office.origin.opening) }
+        ensures begins { IfSome result (IsPrefix J.office.origin.journal) }
+        ensures of_clerks { IfSome result (λ told. AreOfClerks J.office.clerks (behind J.office.origin told)) }
+        ensures reaches { IfSome result (λ told. number ≤ length told) }
+        ensures kept { IfSome result (λ told.
+            AreBrought K.brought (K.of journal.now.synchroniser) (length told)) }
+    {
+        let Some(_) = journal.brought(self.rt, number) else {
+            return None;
+        };
+        let Some(notice) = self.office.publish_to(self.rt, number) else {
+            return None;
+        };
+        let Some(on_disk) = journal.brought(self.rt, notice.number()) else {
+            return None;
+        };
+        on_disk.use_invariant();
+        Some(notice)
+    }
+
     /// Shows all entries; where there is a journal, once the disk has them.
     ///
     /// # Errors
     ///
     /// [`SessionFault::JournalFailed`], and nothing is shown; [`SessionFault::NoMemory`].
+    #[tactic(auto, using(crate::proofs::Brought::has_brought))]
     pub fn publish(&self) -> Result<Notice<'h, H, J>, SessionFault>
         // What the notice tells is valid, and goes on from the register that the office was opened with.
         ensures lawful { IfOk result (IsLawful J.office.origin.opening) }
         ensures begins { IfOk result (IsPrefix J.office.origin.journal) }
         ensures of_clerks { IfOk result (λ told. AreOfClerks J.office.clerks (behind J.office.origin told)) }
+        // Where there is a journal, it tells of what a synchronisation of its own file has brought to the disk, all of
+        // it, and of nothing that none has brought.
+        ensures kept { IfOk result (λ told. IfSome self.now.journal (λ journal.
+            AreBrought K.brought (K.of journal.synchroniser) (length told))) }
+        ensures reaches { IfOk result (λ told. IfSome self.now.journal (λ journal.
+            HasBrought K.brought (K.of journal.synchroniser) (length told))) }
         ensures fault { IfErr result (IsRoomFault self.now.journal) }
     {
-        let notice = match self.sync_journal()? {
-            Some(number) => self.office.publish_to(self.rt, number),
-            None => self.office.publish(self.rt),
+        let Some(journal) = &self.journal else {
+            return match self.office.publish(self.rt) {
+                Some(notice) => Ok(notice),
+                None => Err(SessionFault::NoMemory),
+            };
         };
-        match notice {
+        let on_disk = self.sync_kept(journal)?;
+        on_disk.use_invariant();
+        match self.show_kept(journal, on_disk.records()) {
             Some(notice) => Ok(notice),
             None => Err(SessionFault::NoMemory),
         }
     }
 
-    /// Has the disk hold all records that were written, and answers how many they are; `None` where there is no
-    /// journal.
-    fn sync_journal(&self) -> Result<Option<u64>, SessionFault>
-        ensures there { IfOk result (λ number. IsSome number ↔ IsSome self.now.journal) }
-        ensures fault { IfErr result (IsJournalFault self.now.journal) }
+    /// Has the disk hold all records that were written, and says how many they are.
+    fn sync_kept(&self, journal: &Journal<F, &'h H, K>) -> Result<OnDisk<K>, SessionFault>
+        ensures file { IfOk result (λ on_disk. on_disk.file ≡ K.of journal.now.synchroniser) }
+        ensures fault { IfErr result (λ fault. fault ≡ SessionFault.JournalFailed) }
     {
-        let Some(journal) = &self.journal else {
-            return Ok(None);
-        };
         match journal.sync_all(self.rt) {
-            Some(on_disk) => Ok(Some(on_disk.records())),
+            Some(on_disk) => Ok(on_disk),
             None => Err(SessionFault::JournalFailed),
         }
     }

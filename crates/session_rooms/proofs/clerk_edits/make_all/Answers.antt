@@ -3,7 +3,7 @@ use Rattle.std.proofs.Math.Seq.{drop-cons}
 use Rattle.std.proofs.lemmas.List.{take_more, take-append-drop}
 use Rattle.session_rooms.specs.declared.clerk_edits.TheConstants.{EDITS_CLERK}
 use Rattle.session_rooms.specs.ClerkEdits.{AreMadeBy}
-use Rattle.session_rooms.proofs.EditsOfClerk.{one_more, stopped}
+use Rattle.session_rooms.proofs.EditsOfClerk.{one_more, stopped, short}
 use Rattle.session_rooms.proofs.clerk_edits.make_all.Goals as goal
 
 pub loop-said-preserved : goal.loop-said-preserved
@@ -26,3 +26,13 @@ returns-in-Err-clause-refused g c =
     stopped EDITS_CLERK edits i c.said-item.result c.args.fabric.now c.loop-said.fabric c.edit.new.self c.in-Err.refusal
     (sym (take-append-drop i edits) ∙ ap (λ rest. take i edits ++ rest) left) c.loop-said.invariant c.in-Err.ensures.unchanged
     c.in-Err.ensures.refusal
+
+pub returns-in-Err-clause-memory : goal.returns-in-Err-clause-memory
+returns-in-Err-clause-memory g c =
+    let edits = c.args.edits.now in
+    let i = c.loop-said.said-index in
+    let left : drop i edits ≡ c.said-item.result ∷ drop (suc i) edits =
+    drop-cons edits i c.said-item.result c.loop-said-test.true ∙ ap (λ said. said ∷ drop (suc i) edits) (sym c.said-item.is) in
+    short EDITS_CLERK edits i c.said-item.result c.args.fabric.now c.loop-said.fabric c.edit.new.self c.in-Err.refusal
+    (sym (take-append-drop i edits) ∙ ap (λ rest. take i edits ++ rest) left) c.loop-said.invariant c.in-Err.ensures.unchanged
+    c.in-Err.ensures.exact

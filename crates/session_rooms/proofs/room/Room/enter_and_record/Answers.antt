@@ -1,6 +1,6 @@
 use Rattle.std.proofs.Common.{◌∙◌, sym}
 use Rattle.session_rooms.proofs.Recorded.{recorded}
-use Rattle.session_rooms.proofs.Rooms.{if_never, of_value}
+use Rattle.session_rooms.proofs.Rooms.{if_never, if_no_line_never, of_value}
 use Rattle.session_rooms.proofs.room.Room.enter_and_record.Goals as goal
 
 pub returns-in-Err-clause-broken : goal.returns-in-Err-clause-broken
@@ -17,3 +17,9 @@ returns-clause-recorded g c =
     (of_value c.add.result _ is_ok added.bytes) (of_value c.add.result _ is_ok added.next)
     (of_value c.add.result _ is_ok added.records) (of_value c.add.result _ is_ok added.seal)
     (of_value c.add.result _ is_ok added.layer) added.file (whole.1 ∙ sym whole.0)
+
+pub returns-in-Err-clause-unasked : goal.returns-in-Err-clause-unasked
+returns-in-Err-clause-unasked g c = if_no_line_never c.in-Err.fault _ c.in-Err.ensures.asked
+
+pub returns-in-Err-clause-unkept : goal.returns-in-Err-clause-unkept
+returns-in-Err-clause-unkept g c = if_never c.in-Err.fault _ c.in-Err.ensures.no_journal
