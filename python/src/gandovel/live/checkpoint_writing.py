@@ -71,6 +71,8 @@ def make_checkpoint(path: Path, of: Path, out: Path, island: Optional[int] = Non
     """
     if out.exists():
         raise Refused("P14", f"{out} is there already: give a new name, since nothing is written over")
+    if not str(path.absolute()).isprintable():
+        raise Refused("P14", f"{path!r} can't stand in {FACTS}: give the journal a name of signs that are printed")
     source = _source_of(of, island)
     data = read_closed(str(path))
     aside = out.with_name(f".{os.getpid()}.{out.name}")
