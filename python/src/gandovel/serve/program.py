@@ -59,7 +59,9 @@ class Program:
         command = [find_tool(), "session", *words, *(word for name in names for word in ("--desk", name))]
         command += [] if journal is None else ["--journal", journal]
         errors = tempfile.TemporaryFile()
-        lines: Callable[[int, int], Lines] = Lines if checkpoint is None else partial(RenamedLines, checkpoint)
+        lines: Callable[[int, int], Lines] = Lines
+        if checkpoint is not None:
+            lines = partial(RenamedLines, checkpoint)
         process, *ends = _begun(command, errors)
         program = cls(process, lines(*ends), errors)
         try:
