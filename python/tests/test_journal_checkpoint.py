@@ -286,6 +286,7 @@ def test_what_can_not_be_made(layer, registers, tmp_path, capsys):
         ((early, "--of", tmp_path / "none"), "P1"),
         ((layer / "rows.csv", "--of", layer), "no journal"),
         ((early, "--of", layer, "--island", "2"), "P13"),
+        (("a\nb", "--of", layer), "P14"),
     ):
         line = refused(capsys, "journal", "--checkpoint", *words, "--out", tmp_path / "new")
         assert line.startswith(f"error: {code} "), line

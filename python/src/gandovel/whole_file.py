@@ -26,6 +26,15 @@ def renamed(path: Union[str, "os.PathLike[str]"]) -> Iterator[Path]:
             os.unlink(left)
 
 
+def synchronise_folder(folder: Path) -> None:
+    """Brings a folder's own list of files to the disk. Raises OSError."""
+    handle = os.open(folder, os.O_RDONLY | os.O_DIRECTORY | os.O_CLOEXEC)
+    try:
+        os.fsync(handle)
+    finally:
+        os.close(handle)
+
+
 @contextmanager
 def whole_file(path: Union[str, "os.PathLike[str]"]) -> Iterator[Path]:
     """As `renamed`; Refused P14 where it can't be written."""

@@ -20,7 +20,7 @@ def add_options(command: argparse.ArgumentParser) -> None:
         help=f"the most rings of a district ({A_DISTRICT}); a smaller layer is cut, too, where this is given",
     )
     group.add_argument("--engine", choices=ENGINES, default="processes", help="what judges districts (processes)")
-    group.add_argument("--jobs", metavar="N", type=_positive, help="runs at once (the processors)")
+    group.add_argument("--jobs", metavar="N", type=positive, help="runs at once (the processors)")
     group.add_argument("--scheduler", metavar="ADDRESS", help="Dask's scheduler; without it, one on this machine")
 
 
@@ -35,7 +35,8 @@ def add_cut(command: argparse.ArgumentParser) -> None:
     )
 
 
-def _positive(word: str) -> int:
+def positive(word: str) -> int:
+    """A whole number from 1, as an option's type."""
     number = int(word)
     if number < 1:
         raise argparse.ArgumentTypeError("a whole number from 1")
@@ -43,7 +44,7 @@ def _positive(word: str) -> int:
 
 
 def _rings(word: str) -> int:
-    number = _positive(word)
+    number = positive(word)
     if number > A_DISTRICT:
         raise argparse.ArgumentTypeError(f"a whole number from 1 to {A_DISTRICT}")
     return number

@@ -7,6 +7,7 @@ from __future__ import annotations
 
 import hashlib
 import json
+import os
 from dataclasses import dataclass, replace
 from datetime import datetime, timezone
 from functools import cached_property
@@ -160,7 +161,7 @@ class Checkpoint:
 
 def is_checkpoint(folder: object) -> bool:
     """Whether a path is the folder of a checkpoint."""
-    return isinstance(folder, (str, Path)) and (Path(folder) / FACTS).is_file()
+    return isinstance(folder, (str, os.PathLike)) and os.path.isfile(Path(folder) / FACTS)
 
 
 def text_of(facts: Dict[str, str], files: Dict[str, str]) -> str:

@@ -8,13 +8,13 @@ import tempfile
 from pathlib import Path
 from typing import Dict, List, NamedTuple, Optional, Sequence, Tuple
 
-import numpy as np
-
+from ..arrays import Array
 from ..errors import BadAnswer, JournalRefused, Refused
 from ..metropolis.ids import Ids
 from ..metropolis.manifest import synchronise
 from ..program.layer_files import read_rings, write_rings
 from ..reading.prepared import OUT_ROW, Prepared, load
+from ..whole_file import synchronise_folder
 from .answers import accepted_of
 from .checkpoint import BEFORE, FACTS, IDS, JOURNAL, ORIGIN, Checkpoint, Past, checkpoint_of, is_checkpoint, sum_of
 from .checkpoint import text_of
@@ -71,6 +71,8 @@ def make_checkpoint(path: Path, of: Path, out: Path, island: Optional[int] = Non
     """
     if out.exists():
         raise Refused("P14", f"{out} is there already: give a new name, since nothing is written over")
+    if not str(path.absolute()).isprintable():
+        raise Refused("P14", f"{path!r} can't stand in {FACTS}: give the journal a name of signs that are printed")
     source = _source_of(of, island)
     data = read_closed(str(path))
     aside = out.with_name(f".{os.getpid()}.{out.name}")
@@ -96,15 +98,6 @@ def make_checkpoint(path: Path, of: Path, out: Path, island: Optional[int] = Non
     return checkpoint_of(out)
 
 
-def synchronise_folder(folder: Path) -> None:
-    """Brings a folder's own list of files to the disk."""
-    handle = os.open(folder, os.O_RDONLY | os.O_DIRECTORY | os.O_CLOEXEC)
-    try:
-        os.fsync(handle)
-    finally:
-        os.close(handle)
-
-
 def _source_of(of: Path, island: Optional[int]) -> Source:
     """What `--of` names. Refused P1, P13, P19."""
     if is_checkpoint(of):
@@ -121,7 +114,7 @@ def _source_of(of: Path, island: Optional[int]) -> Source:
     return Source(of, prepared, island or 1, prepared.folders(of)[(island or 1) - 1], None)
 
 
-def _replayed(source: Source, data: bytes, journal: Journal) -> Tuple[List[np.ndarray], List[Past]]:
+def _replayed(source: Source, data: bytes, journal: Journal) -> Tuple[List[Array], List[Past]]:
     """The rings that the journal leaves, by ascending ids, and its entries in the register's ids, by the program.
 
     Raises `JournalRefused` where it is of another layer.
@@ -153,7 +146,7 @@ def _ids_after(source: Source, past: Sequence[Past]) -> List[str]:
     return sorted(there, key=int)
 
 
-def _write(aside: Path, source: Source, rings: Sequence[np.ndarray], past: Sequence[Past], ids: Sequence[int]) -> None:
+def _write(aside: Path, source: Source, rings: Sequence[Array], past: Sequence[Past], ids: Sequence[int]) -> None:
     """Writes the layer, the table of ids, the entries, and a copy of the register as it was prepared."""
     if len(rings) != len(ids):
         raise BadAnswer("T3", f"the program exported {len(rings)} parcels, and the journal leaves {len(ids)}")

@@ -7,6 +7,7 @@ from pathlib import Path
 from typing import List, Optional
 
 from ..errors import JournalInUse, JournalRefused, Refused
+from ..whole_file import synchronise_folder
 from .journal_repair import Repair, repair
 from .journals import journal_of
 
@@ -87,11 +88,7 @@ def _write_new(path: str, data: bytes) -> None:
             file.write(data)
             file.flush()
             os.fsync(file.fileno())
-        folder = os.open(Path(path).resolve().parent, os.O_RDONLY)
-        try:
-            os.fsync(folder)
-        finally:
-            os.close(folder)
+        synchronise_folder(Path(path).resolve().parent)
     except OSError as fault:
         Path(path).unlink(missing_ok=True)
         raise Refused("P14", f"{path} can't be written: {fault.strerror}") from fault

@@ -6,6 +6,7 @@ import sys
 from typing import TYPE_CHECKING, Any, Optional
 
 from ..errors import Refused
+from ..large.options import positive
 
 if TYPE_CHECKING:
     from .summary import Summary
@@ -31,14 +32,14 @@ def add_command(commands: Any) -> None:
         "--scheduler", metavar="ADDRESS", help="Dask's scheduler; without it, one with workers on this machine"
     )
     one.add_argument(
-        "--jobs", metavar="N", type=_positive, help="tasks at once (the processors; Slurm and a scheduler: theirs)"
+        "--jobs", metavar="N", type=positive, help="tasks at once (the processors; Slurm and a scheduler: theirs)"
     )
-    one.add_argument("--threads", metavar="N", type=_positive, default=1, help="threads of a run of the program (1)")
+    one.add_argument("--threads", metavar="N", type=positive, default=1, help="threads of a run of the program (1)")
     one.add_argument(
         "--timeout", metavar="SECONDS", type=float, help="the longest that the program may take for a city"
     )
     one.add_argument(
-        "--memory", metavar="MB", type=_positive, help="the most address space that the program may take, in MiB"
+        "--memory", metavar="MB", type=positive, help="the most address space that the program may take, in MiB"
     )
     one.add_argument(
         "--retries", metavar="N", type=int, default=2, help="how often a task without a result is tried again (2)"
@@ -47,13 +48,6 @@ def add_command(commands: Any) -> None:
     one.add_argument(
         "--verify", action="store_true", help="do that again, too, and name results that said something else"
     )
-
-
-def _positive(word: str) -> int:
-    number = int(word)
-    if number < 1:
-        raise argparse.ArgumentTypeError("a whole number from 1")
-    return number
 
 
 def run_command(options: argparse.Namespace) -> int:

@@ -7,17 +7,20 @@ GREY, BLUE, ORANGE, PINK = "200,205,210,255", "0,114,178,255", "230,159,0,255", 
 BROWN, VIOLET, GREEN, RED = "176,120,0,255", "106,63,181,255", "0,122,90,255", "178,34,34,255"
 
 
+def _options(*options: Tuple[str, str]) -> str:
+    return "".join(
+        f'<Option type="QString" name="{key}" value="{value}"/><prop k="{key}" v="{value}"/>' for key, value in options
+    )
+
+
 def _symbol(name: str, fill: str, line: str, width: float, filled: bool) -> str:
     style = "solid" if filled else "no"
-    options = (
+    text = _options(
         ("color", fill),
         ("outline_color", line),
         ("outline_width", str(width)),
         ("outline_style", "solid"),
         ("style", style),
-    )
-    text = "".join(
-        f'<Option type="QString" name="{key}" value="{value}"/><prop k="{key}" v="{value}"/>' for key, value in options
     )
     return (
         f'<symbol type="fill" name="{name}" alpha="1" clip_to_extent="1">'
@@ -35,16 +38,13 @@ def _single(fill: str, line: str, width: float, filled: bool = True) -> str:
 
 def _marker(line: str, size: float) -> str:
     """The style of a layer of points: a cross of this size, in mm."""
-    options = (
+    text = _options(
         ("name", "cross2"),
         ("color", line),
         ("outline_color", line),
         ("outline_width", "0.4"),
         ("size", str(size)),
         ("size_unit", "MM"),
-    )
-    text = "".join(
-        f'<Option type="QString" name="{key}" value="{value}"/><prop k="{key}" v="{value}"/>' for key, value in options
     )
     return (
         '<!DOCTYPE qgis PUBLIC "http://mrcc.com/qgis.dtd" "SYSTEM"><qgis styleCategories="Symbology">'

@@ -128,21 +128,23 @@ class Projection:
         """The nearest whole millimetres of a place in a projection, and how far off it is in mm (measured)."""
         if not (np.isfinite(x) and np.isfinite(y)):
             raise BadRequest("x", "x and y are numbers")
-        if uri == WGS84 or uri == self.uri and self.is_north_first:
-            x, y = y, x
-        if uri != self.uri:
-            x, y = self._in.transform(*(_degrees_of(x, y) if uri == MERCATOR else (x, y)))
+        x, y = self._own(x, y, uri)
         if not (np.isfinite(x) and np.isfinite(y)) or max(abs(x), abs(y)) * self.scale > FARTHEST:
             raise BadRequest("x", "the place is too far out for the projection")
         whole = round(x * self.scale), round(y * self.scale)
         return (*whole, float(np.hypot(x * self.scale - whole[0], y * self.scale - whole[1])))
 
-    def point(self, x: float, y: float, uri: str) -> BaseGeometry:
-        """A place of a projection in mm, measured; no place where the projection is not defined."""
+    def _own(self, x: float, y: float, uri: str) -> Tuple[float, float]:
+        """A place of a projection in the layer's own, in its unit; not finite where it has none."""
         if uri == WGS84 or uri == self.uri and self.is_north_first:
             x, y = y, x
         if uri != self.uri:
             x, y = self._in.transform(*(_degrees_of(x, y) if uri == MERCATOR else (x, y)))
+        return x, y
+
+    def point(self, x: float, y: float, uri: str) -> BaseGeometry:
+        """A place of a projection in mm, measured; no place where the projection is not defined."""
+        x, y = self._own(x, y, uri)
         is_place = np.isfinite(x) and np.isfinite(y) and max(abs(x), abs(y)) * self.scale < FARTHEST
         return Point(x * self.scale, y * self.scale) if is_place else Point()
 

@@ -11,7 +11,7 @@ import subprocess
 import tempfile
 from functools import partial
 from pathlib import Path
-from typing import IO, List, Optional, Sequence, Tuple
+from typing import IO, Callable, List, Optional, Sequence, Tuple
 
 from ..errors import JournalInUse, ProgramEnded, Refused, TimedOut
 from ..live.answers import count_of, start_refused, test_error
@@ -59,7 +59,9 @@ class Program:
         command = [find_tool(), "session", *words, *(word for name in names for word in ("--desk", name))]
         command += [] if journal is None else ["--journal", journal]
         errors = tempfile.TemporaryFile()
-        lines = Lines if checkpoint is None else partial(RenamedLines, checkpoint)
+        lines: Callable[[int, int], Lines] = Lines
+        if checkpoint is not None:
+            lines = partial(RenamedLines, checkpoint)
         process, *ends = _begun(command, errors)
         program = cls(process, lines(*ends), errors)
         try:
