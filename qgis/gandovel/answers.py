@@ -55,6 +55,8 @@ class Refusal:
         return tr("{layer} do not tile the city: there is a fault at ({x}, {y}).", layer=layer, x=place[1], y=place[2])
 
 
+ON_PATH = "put it on PATH"
+"""What the package proposes to users of a shell where there is no program."""
 UNDECIDED = "undecided"
 """The verdict on a layer whose corners lie beside borders at distances that have no clear edge."""
 NOT_TILING = "H2"
@@ -94,7 +96,8 @@ def _answer_of(ended: Ended) -> Answer:
         return answer
     refusals = [_refusal_of(row) for row in (answer or {}).get("refused", [])] or [_of_line(line) for line in errors]
     if any(refusal.code == "T1" for refusal in refusals):
-        raise NotFound(f"{no_program()} ({'; '.join(refusal.text for refusal in refusals)})")
+        reasons = [refusal.text for refusal in refusals if ON_PATH not in refusal.text]
+        raise NotFound(" ".join([no_program(), *(f"({reason})" for reason in reasons)]))
     if refusals:
         raise Refused(refusals)
     last = (ended.errors or [""])[-1]

@@ -20,8 +20,9 @@ OF_MEASURED = 4
 """How many times as far off the corners of an open gap may be."""
 LEAST_SHARE = 0.1
 """A neighbour whose border with a gap is shorter than this share of the longest is not proposed."""
-MOST_OF_FAULT, LEAST_OF_FAULT = 1.01, 0.05
-"""How much of a fault's area moving one corner may change at most: no more than the fault. And any repair at least."""
+MOST_OF_FAULT, LEAST_OF_FAULT = 3.0, 0.05
+"""How many times a fault's area moving one corner may change at most: a corner that is off leaves a gap on one side, and
+overlaps on the other. And how much of the fault's area any repair changes at least."""
 Shapes = Dict[int, QgsGeometry]
 ODD, MISSING, LONGEST, GIVE, KEEP = "odd", "missing", "longest", "give", "keep"
 """The rules of candidates: what "all of this kind" repeats."""

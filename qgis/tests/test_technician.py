@@ -60,6 +60,6 @@ def test_each_is_mended_without_leaving_the_canvas(seen: Dict[str, Any]) -> None
 def test_the_planted_ones_are_mended_and_the_program_says_that_it_tiles(seen: Dict[str, Any]) -> None:
     """Live checking and the whole program agree."""
     assert seen["live"][1] == 0 and "no gaps, no overlaps" in seen["live"][0], seen["planted"]
-    assert seen["whole"] == ["town: The parcels tile the city: no gaps, no overlaps, no open gaps, no slivers.", 0] or (
-        seen["whole"][0].startswith("town: The parcels tile the city:") and seen["whole"][1] == 0
-    )
+    assert all(" 1 step, " in told for told in seen["planted"] if " step" in told)
+    said, left = seen["whole"]
+    assert said.startswith("town: The parcels tile the city: no gaps, no overlaps, no open gaps") and left == 0

@@ -144,7 +144,7 @@ def _data_of(report: Path) -> Dict[str, Any]:
 
 def _told(about: Optional[Tuple[Any, Any]], layers: Dict[str, _Layer]) -> Dict[str, str]:
     """The verdict in words, when it was written, and its basis, which an older report does not have."""
-    description, time = ("", "") if about is None else (str(it or "") for it in about)
+    description, time = (str(it or "") for it in about or ("", ""))
     basis = description.partition(STANDS_ON)[2]
     count = {name: len(layers[name]) if name in layers else 0 for name in FAULT_LAYERS}
     open_gaps = count.pop("open_gaps")
