@@ -8,15 +8,14 @@ from pathlib import Path
 from typing import List
 
 FAULTS_BY_SQL = """
-SELECT 'overlap', a.parcel_no || ',' || b.parcel_no, ST_X(p.at), ST_Y(p.at), ST_Area(c.geom)
+SELECT 'overlap', a.parcel_no || ',' || b.parcel_no, ST_Area(c.geom), encode(ST_AsBinary(c.geom), 'hex')
   FROM parcels a JOIN parcels b ON a.fid < b.fid AND a.geom && b.geom,
-  LATERAL (SELECT ST_Intersection(a.geom, b.geom) AS geom) c, LATERAL (SELECT ST_PointOnSurface(c.geom) AS at) p
+  LATERAL (SELECT ST_Intersection(a.geom, b.geom) AS geom) c
  WHERE ST_Intersects(a.geom, b.geom) AND ST_Area(c.geom) > 0;
 WITH whole AS (SELECT (ST_Dump(ST_Union(geom))).geom AS geom FROM parcels),
      rings AS (SELECT (ST_DumpRings(geom)).* FROM whole),
      holes AS (SELECT row_number() OVER () AS hole, geom FROM rings WHERE path[1] > 0)
-SELECT 'gap', string_agg(p.parcel_no, ','), ST_X(ST_PointOnSurface(h.geom)), ST_Y(ST_PointOnSurface(h.geom)),
-       ST_Area(h.geom)
+SELECT 'gap', string_agg(p.parcel_no, ','), ST_Area(h.geom), encode(ST_AsBinary(h.geom), 'hex')
   FROM holes h JOIN parcels p ON ST_DWithin(h.geom, p.geom, {near}) GROUP BY h.hole, h.geom;
 """
 FAULTS_BY_TOPOLOGY = """
@@ -33,7 +32,7 @@ SELECT 'gap', string_agg(DISTINCT o.parcel_no, ','), topology.ST_GetFaceGeometry
   FROM net.face f JOIN net.edge_data e ON f.face_id IN (e.left_face, e.right_face)
   JOIN owned o ON o.face IN (e.left_face, e.right_face)
  WHERE f.face_id > 0 AND f.face_id NOT IN (SELECT face FROM owned) GROUP BY f.face_id;
-SELECT kind, numbers, ST_X(ST_PointOnSurface(geom)), ST_Y(ST_PointOnSurface(geom)), ST_Area(geom) FROM faults;
+SELECT kind, numbers, ST_Area(geom), encode(ST_AsBinary(geom), 'hex') FROM faults;
 """
 DROP = """
 SET client_min_messages = error;

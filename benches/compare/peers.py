@@ -154,9 +154,12 @@ def numbers_by_fid(layer: Path) -> Dict[int, str]:
 
 
 def lines_of(text: str) -> List[Said]:
-    """The faults that the small programs here print: `KIND NUMBER,NUMBER.. AREA SHAPE`, a line each, the shape as
-    hexadecimal well-known binary."""
-    rows = (line.split(" ") for line in text.splitlines())
+    """The faults that the small programs here print: `KIND NUMBER,NUMBER.. AREA SHAPE`, a line each."""
+    return rows_said(line.split(" ") for line in text.splitlines())
+
+
+def rows_said(rows: Iterable[Sequence[str]]) -> List[Said]:
+    """Faults of rows of kind, numbers, area, and shape as hexadecimal well-known binary."""
     return [
         Said(kind, tuple(numbers.split(",")) if numbers else (), wkb.loads(shape, hex=True), float(area))
         for kind, numbers, area, shape in rows
@@ -219,14 +222,6 @@ def plain(layer: Path, distance: float, built: Path) -> List[Said]:
 def topology(layer: Path, distance: float, built: Path) -> List[Said]:
     """PostGIS's `toTopoGeom` with a tolerance: faces of no parcel are gaps, faces of several are overlaps."""
     return rows_said(Database(built).faults_by_topology(distance))
-
-
-def rows_said(rows: Iterable[Sequence[str]]) -> List[Said]:
-    """Faults of rows of KIND, NUMBERS, X, Y, AREA."""
-    return [
-        Said(kind, tuple(numbers.split(",")), Point(float(x), float(y)), float(area))
-        for kind, numbers, x, y, area in rows
-    ]
 
 
 PEERS = [
