@@ -5,4 +5,4 @@
 /// `scripts/crate_list.py`). `rt ci` and `rt run` build it over proofs; `scripts/build_unproved` compiles another
 /// constant, which says `unproved`.
 pub(crate) const VERSION: &str =
-    "2.0.0 (rattle-kit-13f, proved, texts e207851e6924fdd0f627f9fb93e47664c77b3da9e9db2828d3916ef955208678)";
+    "2.0.0 (rattle-kit-13f, proved, texts f7358511d4ce81a6152173e57c0175d64eefacb9e406b9c5f838f12aca740eb3)";
