@@ -5,4 +5,4 @@
 /// `scripts/crate_list.py`). `rt ci` and `rt run` build it over proofs; `scripts/build_unproved` compiles another
 /// constant, which says `unproved`.
 pub(crate) const VERSION: &str =
-    "2.0.0 (rattle-kit-13f, proved, texts f7358511d4ce81a6152173e57c0175d64eefacb9e406b9c5f838f12aca740eb3)";
+    "2.0.0 (rattle-kit-13f, proved, texts 64092c93fbcb0a66dae6183d7c3e806c1c38ca7e1821ac0b6b080d248c4d28a0)";

@@ -14,6 +14,7 @@ use geo_exact::{ByteOut, Counted};
 use session_rooms::{Came, Chair, Clocked, Room, answer};
 use std::alloc::Allocator;
 use std::fs::File;
+use std::io;
 use std::io::{BufReader, ErrorKind};
 use std::sync::Wait;
 use std::sync::atomic::Ordering;
@@ -28,8 +29,9 @@ pub(crate) struct Desk<'p, 'h, H: Allocator, J: Naming<H>> {
 /// What follows once a desk has served a client.
 #[derive(Drop)]
 enum After {
-    /// The next client.
-    Client,
+    /// The next client. The pipe of the lines stays open until that one has opened it: else a client that comes early
+    /// would have a pipe that nobody reads.
+    Client(Option<File>),
     /// No other client.
     End,
 }
@@ -41,20 +43,22 @@ pub(crate) fn serve_desk<'p, 'h, P: Pipes, H: Allocator, J: Naming<H>, R: Wait, 
     desk: Desk<'p, 'h, H, J>,
 ) -> Desk<'p, 'h, H, J> {
     let mut desk = desk;
+    let mut kept = None;
     for _ in room.rt.forever() {
-        match serve_next(room, pipes, &mut desk) {
-            After::Client => {}
+        match serve_next(room, pipes, &mut desk, kept) {
+            After::Client(pipe) => kept = pipe,
             After::End => break,
         }
     }
     desk
 }
 
-/// Serves the next client of a desk.
+/// Serves the next client of a desk; the pipe that was kept is closed once it is there.
 fn serve_next<'p, 'h, P: Pipes, H: Allocator, J: Naming<H>, R: Wait, K: Clocked>(
     room: &Room<'_, 'h, H, J, R, DiskFile, K>,
     pipes: &P,
     desk: &mut Desk<'p, 'h, H, J>,
+    kept: Option<File>,
 ) -> After {
     if !room.door.step_in(room.rt) {
         return After::End;
@@ -62,14 +66,16 @@ fn serve_next<'p, 'h, P: Pipes, H: Allocator, J: Naming<H>, R: Wait, K: Clocked>
     let paths = desk.paths;
     // Said in the door: whoever closes the session looks at it once nobody stands there any more.
     paths.serves.store(true, Ordering::SeqCst);
-    let opened = paths.open_both(room.rt, &room.door, pipes);
+    let opened = open_both(pipes, paths);
     room.door.pass(room.rt);
     let after = match opened {
-        Ok((pipe, answers)) => serve_client(room, desk, pipe, answers),
-        Err(error) if error.kind() == ErrorKind::OutOfMemory => After::Client,
+        Ok((pipe, answers)) => {
+            drop(kept);
+            serve_client(room, desk, pipe, answers)
+        }
+        Err(error) if error.kind() == ErrorKind::OutOfMemory => After::Client(kept),
         Err(_) => After::End,
     };
-    paths.end_answers(room.rt);
     paths.serves.store(false, Ordering::SeqCst);
     after
 }
@@ -93,7 +99,7 @@ fn serve_client<'p, 'h, H: Allocator, J: Naming<H>, R: Wait, K: Clocked>(
         Err(_) => Served::Gone,
     };
     match served {
-        Served::Gone | Served::Deaf => After::Client,
+        Served::Gone | Served::Deaf => After::Client(Some(pipe)),
         Served::Ended | Served::Broken => After::End,
     }
 }
@@ -166,4 +172,11 @@ fn answer_desk<'h, H: Allocator, J: Naming<H>, R: Wait, K: Clocked>(
         Came::Closed => Ok(Next::End),
         _ => Ok(Next::Line),
     }
+}
+
+/// Opens a desk's pipes, that of the lines and that of the answers: waits for a client.
+fn open_both<P: Pipes, H: Allocator>(pipes: &P, paths: &Paths<&H>) -> io::Result<(File, File)> {
+    let pipe = pipes.open_to_read(paths.lines.as_str())?;
+    let answers = pipes.open_to_write(paths.answers.as_str())?;
+    Ok((pipe, answers))
 }

@@ -23,12 +23,12 @@ const WAITS: usize = 36;
 /// How many desks there are at most.
 const MOST_DESKS: usize = 8;
 
-/// A desk's pipes as the other end has them, where they could be opened.
+/// A desk's pipes as the other end has them.
 #[derive(Drop)]
 struct Ends<'p, A: Allocator> {
     paths: &'p Paths<A>,
-    lines: Option<File>,
-    answers: Option<File>,
+    lines: File,
+    answers: File,
 }
 
 /// Has all desks take no further line, and wakes those that wait for a client or for a line. The answers of a client
@@ -43,8 +43,8 @@ pub(crate) fn close_desks<P: Pipes, R: Wait, A: Allocator>(
     let mut held = [None, None, None, None, None, None, None, None];
     let mut ends = [None, None, None, None, None, None, None, None];
     for place in 0..MOST_DESKS {
-        if let Some(desk) = paths.get(place) {
-            let (both, end) = open_ends(rt, pipes, desk);
+        // A pipe that is gone by now wakes nobody.
+        if let Some(Ok((both, end))) = paths.get(place).map(|desk| open_ends(pipes, desk)) {
             held[place] = Some(both);
             ends[place] = Some(end);
         }
@@ -54,7 +54,7 @@ pub(crate) fn close_desks<P: Pipes, R: Wait, A: Allocator>(
     drop(held);
     for end in ends.iter().flatten() {
         if end.paths.asks.load(Ordering::SeqCst) {
-            wake(&end.lines);
+            let _ = wake(&end.lines);
         }
     }
     wait_for_desks(pipes, paths);
@@ -66,36 +66,27 @@ pub(crate) fn close_desks<P: Pipes, R: Wait, A: Allocator>(
 }
 
 /// Opens a desk's pipes for both reading and writing, which wakes who waits to open them and waits for nobody; and then
-/// the other end of each. A pipe of answers whose path is gone has nobody who waits, unless its desk has an end of it.
-fn open_ends<'p, P: Pipes, R: Wait, A: Allocator>(
-    rt: &R,
+/// the other end of each.
+fn open_ends<'p, P: Pipes, A: Allocator>(
     pipes: &P,
     paths: &'p Paths<A>,
-) -> ((Option<File>, Option<File>), Ends<'p, A>) {
-    let (answered, answers) = parts_of(paths.open_answered(rt, pipes));
-    let (asked, lines) = parts_of(paths.open_asked(pipes));
+) -> io::Result<((File, File), Ends<'p, A>)> {
+    let answered = pipes.open_for_both(paths.answers.as_str())?;
+    let asked = pipes.open_for_both(paths.lines.as_str())?;
+    let lines = pipes.open_to_write(paths.lines.as_str())?;
+    let answers = pipes.open_to_read(paths.answers.as_str())?;
     let end = Ends {
         paths,
         lines,
         answers,
     };
-    ((answered, asked), end)
-}
-
-/// Two files that were opened, if they were.
-fn parts_of(opened: io::Result<(File, File)>) -> (Option<File>, Option<File>) {
-    match opened {
-        Ok((both, end)) => (Some(both), Some(end)),
-        Err(_) => (None, None),
-    }
+    Ok(((answered, asked), end))
 }
 
 /// Wakes who waits to read a pipe, by an empty line.
-fn wake(pipe: &Option<File>) {
-    if let Some(pipe) = pipe {
-        let mut pipe = pipe;
-        let _ = pipe.write_all(b"\n");
-    }
+fn wake(pipe: &File) -> io::Result<()> {
+    let mut pipe = pipe;
+    pipe.write_all(b"\n")
 }
 
 /// Waits until no desk serves a client, but no longer than a second.
@@ -111,10 +102,7 @@ fn wait_for_desks<P: Pipes, A: Allocator>(pipes: &P, paths: &[Paths<A>]) {
 }
 
 /// Takes all that is written to a pipe until nobody has it open to write.
-fn take_all(pipe: &Option<File>) {
-    let Some(pipe) = pipe else {
-        return;
-    };
+fn take_all(pipe: &File) {
     let mut pipe = pipe;
     let mut taken = [0; 4096];
     // Nobody writes so often: the loop ends with the pipe.

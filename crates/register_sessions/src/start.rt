@@ -13,7 +13,7 @@ use crate::journal_file::{DiskFile, DiskSynchroniser, Machine};
 use crate::offices::{clerks_of, seat_all, windows_of};
 use crate::operator::Operator;
 use crate::own_files::OwnFiles;
-use crate::pipes::{Paths, Pipes, find_pipes, take_pipes};
+use crate::pipes::{Paths, Pipes, find_pipes, let_go};
 use crate::reports::Exports;
 use crate::serving::{Reception, serve};
 use crate::start_fault::StartFault;
@@ -77,11 +77,9 @@ pub fn serve_session<
     // Held to the end: no file of the session gets the number of one of the three that was closed at its start.
     let standard = (open_null(rt), open_null(rt), open_null(rt));
     refuse_many_clerks(plan.desks.len())?;
-    let found = find_pipes(rt, heap, plan.desks.as_slice())?;
-    let own_files = OwnFiles::of_plan(heap, plan)?;
-    let register = open_register(rt, disk, heap, plan)?;
-    let paths = take_pipes(disk, heap, plan.desks.as_slice(), found)?;
-    let served = serve_at(rt, disk, heap, register, own_files, paths.as_slice());
+    let paths = find_pipes(rt, heap, plan.desks.as_slice())?;
+    let served = serve_at(rt, disk, heap, plan, paths.as_slice());
+    let_go(rt, paths.as_slice());
     drop(standard);
     served
 }
@@ -94,21 +92,22 @@ fn open_null<F: Files<File = File>>(files: &F) -> io::Result<File> {
         .open(files, "/dev/null")
 }
 
-/// Serves desks with these pipes, in an office with a name of its own.
+/// The same at these pipes.
 fn serve_at<
     'a,
     'h,
-    R: Input + Print + Threads + Wait + Sync,
+    R: Files<File = File> + Input + Print + Eprint + Threads + Wait + Sync,
     P: Pipes + Exports + Machine + Sync,
     H: Allocator + Send + Sync,
 >(
     rt: &R,
     disk: &'a P,
     heap: &'h H,
-    register: Register<'h, H, DiskSynchroniser<'a, P>>,
-    own_files: OwnFiles<&'h H>,
+    plan: &Plan<'a>,
     paths: &[Paths<&'h H>],
 ) -> Result<(), StartFault<'a, &'h H>> {
+    let own_files = OwnFiles::of_plan(heap, plan)?;
+    let register = open_register(rt, disk, heap, plan)?;
     let name = Name::new(heap)?;
     at_office::<R, P, H, DiskSynchroniser<'a, P>, Brand>(
         rt, disk, heap, name, register, own_files, paths,
