@@ -7,7 +7,6 @@ import functools
 import os
 import re
 import shlex
-import shutil
 import signal
 import subprocess
 import sys
@@ -120,17 +119,14 @@ def test_a_close_wakes_each_desk(town):
             half.close()
 
 
-@pytest.mark.parametrize("then", ["unlinked", "made anew", "moved", "unlinked with their folder"])
+@pytest.mark.parametrize("then", ["unlinked", "made anew", "moved"])
 @pytest.mark.parametrize("waits", ["for a client", "for the other pipe", "for a line", "for a client that reads"])
-def test_a_close_ends_though_a_desks_pipes_are_gone(town, tmp_path, waits, then):
-    """Whatever a desk waits for, the session has ends of its own of its pipes, and needs no name of them."""
-    folder = tmp_path / "desks"
-    folder.mkdir()
-    anna, made = folder / "anna", waits in ("for a line", "for a client that reads")
-    with started(town, anna) as program, contextlib.ExitStack() as clients:
+def test_a_close_ends_though_a_desks_pipes_are_gone(program, tmp_path, waits, then):
+    """Whatever a desk waits for, the session has names of its own for its pipes, and leaves none behind."""
+    anna, made = tmp_path / "anna", waits in ("for a line", "for a client that reads")
+    with contextlib.ExitStack() as clients:
         if waits == "for the other pipe":
             clients.enter_context(open(f"{anna}.in", "wb", buffering=0))
-            time.sleep(0.1)
         elif made:
             raw = clients.enter_context(Raw(str(anna)))
             assert raw.ask(b"merge 1 2\n") == [b"ok 1 out 1 2 new 65"]
@@ -145,35 +141,26 @@ def test_a_close_ends_though_a_desks_pipes_are_gone(town, tmp_path, waits, then)
                 os.unlink(f"{anna}{ending}")
             if then == "made anew":
                 os.mkfifo(f"{anna}{ending}", 0o600)
-        assert [path.name for path in folder.iterdir() if path.suffix not in (".in", ".out")] == ["anna.lock"]
-        if then == "unlinked with their folder":
-            shutil.rmtree(folder)
         program.stdin.write(b"close\n")
         program.stdin.flush()
         assert program.stdout.readline() == (b"closed 1\n" if made else b"closed 0\n")
         assert program.wait(SOON) == 0
+    assert not list(tmp_path.glob("*.held"))
 
 
-def test_a_client_that_reads_first_or_writes_first_is_served(town, tmp_path):
-    """A reader that waits since before the start, and one that comes once the lines are written and their pipe is
-    closed: each gets its answers, and then the end of its pipe, and the session begins no client before it is there."""
-    anna = tmp_path / "anna"
-    make_pipes(anna)
-    early = subprocess.Popen(["cat", f"{anna}.out"], stdout=subprocess.PIPE)
-    try:
-        time.sleep(0.2)
-        with started(town, anna) as program:
-            Path(f"{anna}.in").write_bytes(b"merge 1 2\n")
-            assert early.stdout.read() == b"ok 1 out 1 2 new 65\n"
-            Path(f"{anna}.in").write_bytes(b"entries\n" * 3)
-            time.sleep(0.2)
-            assert Path(f"{anna}.out").read_bytes() == b"entries 1\n" * 3
-            program.stdin.close()
-            assert program.stdout.readline() == b"closed 1\n" and program.wait(SOON) == 0
-    finally:
-        early.kill()
-        early.wait()
-        early.stdout.close()
+def test_names_that_a_killed_session_left_are_taken_anew(program, town, tmp_path):
+    """And a file of somebody else under such a name stays as it is: the pipe is opened by its own name then."""
+    program.kill()
+    program.wait()
+    assert sorted(path.name for path in tmp_path.glob("*.held")) == ["anna.in.held", "anna.out.held"]
+    (tmp_path / "anna.out.held").unlink()
+    (tmp_path / "anna.out.held").write_text("a note")
+    again = subprocess.run(
+        [find_tool(), *words_of(town, tmp_path / "anna")], input=b"close\n", capture_output=True, timeout=SOON
+    )
+    assert (again.stdout, again.returncode) == (b"ready 0\nclosed 0\n", 0)
+    assert [path.name for path in tmp_path.glob("*.held")] == ["anna.out.held"]
+    assert (tmp_path / "anna.out.held").read_text() == "a note"
 
 
 def test_a_client_that_reads_gets_all_answers_of_what_was_taken(program, tmp_path):
@@ -349,3 +336,25 @@ def settings_of(unit: Path, town: Town, folder: Path) -> Dict[str, str]:
     for before, after in places.items():
         text = text.replace(before, after)
     return dict(re.findall("(?m)^(Exec[A-Za-z]+)=(.*)$", text))
+
+
+def test_a_client_that_reads_first_or_writes_first_is_served(town, tmp_path):
+    """A reader that waits since before the start, and one that comes once the lines are written and their pipe is
+    closed: each gets its answers, and then the end of its pipe, and the session begins no client before it is there."""
+    anna = tmp_path / "anna"
+    make_pipes(anna)
+    early = subprocess.Popen(["cat", f"{anna}.out"], stdout=subprocess.PIPE)
+    try:
+        time.sleep(0.2)
+        with started(town, anna) as program:
+            Path(f"{anna}.in").write_bytes(b"merge 1 2\n")
+            assert early.stdout.read() == b"ok 1 out 1 2 new 65\n"
+            Path(f"{anna}.in").write_bytes(b"entries\n" * 3)
+            time.sleep(0.2)
+            assert Path(f"{anna}.out").read_bytes() == b"entries 1\n" * 3
+            program.stdin.close()
+            assert program.stdout.readline() == b"closed 1\n" and program.wait(SOON) == 0
+    finally:
+        early.kill()
+        early.wait()
+        early.stdout.close()

@@ -37,7 +37,8 @@ if os.fork() == 0:
             pass
     sys.exit(7)
 assert os.waitstatus_to_exitcode(os.wait()[1]) == 7
-assert sorted(os.listdir(os.path.dirname(session.path("anna")))) == ["anna.in", "anna.lock", "anna.out"]
+there = sorted(name for name in os.listdir(os.path.dirname(session.path("anna"))) if not name.endswith(".held"))
+assert there == ["anna.in", "anna.lock", "anna.out"]
 assert anna.entries() == 1
 anna.close()
 with session.desk("anna", 20) as desk:
