@@ -12,7 +12,9 @@ import pytest
 
 import gandovel as gv
 from gandovel.cli import main
+from gandovel.live.checkpoint import NO_ID, Checkpoint
 from gandovel.live.journals import read_journal
+from gandovel.metropolis.ids import Ids
 from served import EAST, NORTH, Served, environment, prepared
 from session_register import grid_city
 
@@ -203,6 +205,48 @@ def test_a_server_goes_on_from_a_checkpoint(layer, registers, tmp_path):
         found = [served.ask(f"/locate?x={EAST + 1}&y={NORTH + 1}").json() for served in (one, other)]
         assert found[0] == found[1]
         assert one.end() == other.end() == 0
+
+
+INWARD = {
+    "split 6 -5 0 7 -3": "split 2 -5 0 7 -3",
+    "by a: b: merge 4 9": "by a: b: merge 1 3",
+    "move 10 11 1 1 2 2": "move 4 5 1 1 2 2",
+    "merge 5 9": f"merge {NO_ID + 5} 3",
+    "parcel 6": "parcel 2",
+    "insert 4 6 9 4 5 5": "insert 4 6 9 4 5 5",
+    "merge 4_0 6": "merge 4_0 6",
+    "merge 4": "merge 4",
+    "export /a merge 4 6": "export /a merge 4 6",
+    "close": "close",
+}
+OUTWARD = {
+    "ok 1 out 1 2 new 4": "ok 6 out 4 6 new 10",
+    "ok 2 out 3 new 3": "ok 7 out 9 new 9",
+    "at 0 -5 7 edge 1 2": "at 5 -5 7 edge 4 6",
+    "at 0 1 1 outside": "at 5 1 1 outside",
+    "parcel 1 2 20 0 0 1 0 0 1": "parcel 6 6 20 0 0 1 0 0 1",
+    f"parcel 1 {NO_ID + 5} none": "parcel 6 5 none",
+    "refused E12 2": "refused E12 6",
+    "refused E2 1 3": "refused E2 4 8",
+    f"refused E1 {NO_ID + 5}": "refused E2 5 2",
+    f"refused E1 {NO_ID + 70}": "refused E1 70",
+    "refused E6 1 G2 0 3": "refused E6 1 G2 0 3",
+    "pair 2 1": "pair 6 1",
+    "area 3 1 77": "area 9 1 77",
+    "entries 3": "entries 8",
+    "ready 0": "ready 5",
+    "tiling 3 20": "tiling 3 20",
+    "error: L1": "error: L1",
+    "skipped": "skipped",
+}
+
+
+def test_lines_have_the_registers_ids_and_numbers(tmp_path):
+    """Parcels 4, 6 and 9 are the session's 1, 2 and 3; five entries were before, of which the second took out 5."""
+    (tmp_path / "before.jsonl").write_text('[2, 1, "2026-01-01T00:00:00Z", "", "merge 5 3", "", "3 5", "6"]\n')
+    of = Checkpoint(tmp_path, 5, "", "", "", 1, 3, Ids(0, 3, 9, (4, 6, 9)))
+    assert {line: of.inward(line) for line in INWARD} == INWARD
+    assert {line: of.outward(line) for line in OUTWARD} == OUTWARD
 
 
 def refused(capsys, *words: object) -> str:

@@ -8,6 +8,7 @@ from __future__ import annotations
 import hashlib
 import json
 import os
+import re
 from dataclasses import dataclass, replace
 from datetime import datetime, timezone
 from functools import cached_property
@@ -15,13 +16,15 @@ from pathlib import Path
 from typing import Dict, List, NamedTuple, Optional, Tuple
 
 from ..errors import Refused
-from ..metropolis.ids import Ids, parcels_of, renamed
+from ..metropolis.ids import Ids, renamed
 from .journals import Change, JournalRecord
 
 FACTS, IDS, BEFORE, JOURNAL, ORIGIN = "checkpoint.txt", "ids.csv", "before.jsonl", "journal.txt", "origin"
 HEAD = "# gandovel checkpoint 1"
 NO_ID = 3_141_592_653_589_793_238
 """An id that is not in the present layer goes to the program as this much more: it never had one of these."""
+_NAMING = re.compile(r"(?:(?:parcel|split) [0-9]{1,19}|(?:merge|move) [0-9]{1,19} [0-9]{1,19})(?= |$)")
+"""How a line to the session begins that names parcels."""
 _NAMES = ("from", "layer", "entries", "digest", "bytes", "sha256", "origin", "island", "issued", "begins")
 _TAKE = "take the whole folder from a backup, or make the checkpoint anew"
 
@@ -112,14 +115,11 @@ class Checkpoint:
     def inward(self, line: str) -> str:
         """A line to the session, with the ids of the session: an edit, with or without `by WHO: `, or `parcel ID`."""
         who, colon, edit = line.rpartition(": ") if line.startswith("by ") else ("", "", line)
-        if edit.startswith("parcel "):
-            return f"parcel {self._inward(int(edit[7:]))}" if edit[7:].isdecimal() else line
-        named = edit.split(" ")[1:3]
-        try:
-            parcels_of(edit)
-        except ValueError:  # the session says what is wrong with it
+        found = _NAMING.match(edit)
+        if found is None:  # no id, or a line that the session refuses
             return line
-        return who + colon + (renamed(edit, self._inward) if named else edit)
+        word, *ids = found[0].split(" ")
+        return who + colon + " ".join([word, *(str(self._inward(int(it))) for it in ids)]) + edit[found.end() :]
 
     def _inward(self, parcel: int) -> int:
         found = self.ids.inward(parcel)
