@@ -5,7 +5,7 @@ import os
 import sys
 from pathlib import Path
 
-from qgis.core import QgsProject, QgsVectorLayer
+from qgis.core import QgsApplication, QgsProject, QgsVectorLayer
 from qgis.PyQt.QtCore import QTimer
 from qgis.PyQt.QtWidgets import QApplication, QMessageBox
 from qgis.utils import iface, plugins
@@ -15,10 +15,13 @@ from window_tools import FOLDER, turn  # noqa: E402
 
 
 def agree() -> None:
-    """Says yes where QGIS asks whether a task that runs is to be cancelled."""
+    """Says yes where QGIS asks whether a task that runs is to be cancelled, and exits again once none runs."""
     box = QApplication.activeModalWidget()
     if isinstance(box, QMessageBox) and box.button(QMessageBox.StandardButton.Yes) is not None:
         box.button(QMessageBox.StandardButton.Yes).click()
+    elif box is None and QgsApplication.taskManager().countActiveTasks() == 0:
+        QgsProject.instance().setDirty(False)
+        iface.actionExit().trigger()
 
 
 def main() -> None:
