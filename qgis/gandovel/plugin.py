@@ -8,6 +8,7 @@ from qgis.PyQt.QtCore import Qt
 from qgis.PyQt.QtGui import QIcon
 
 from . import selecting
+from .program import end_all
 from .provider import ICON, GandovelProvider
 from .words import tr
 
@@ -30,6 +31,7 @@ class GandovelPlugin:
         """Adds the provider; without a window that is all."""
         if self.provider is None:
             selecting.begin()
+            QgsApplication.instance().aboutToQuit.connect(end_all)
             self.provider = GandovelProvider()
             QgsApplication.processingRegistry().addProvider(self.provider)
 
@@ -55,10 +57,11 @@ class GandovelPlugin:
         self.actions.append(action)
 
     def unload(self) -> None:
-        """Takes all of it back."""
+        """Takes all of it back, and ends what runs."""
         if self.provider is not None:
             QgsApplication.processingRegistry().removeProvider(self.provider)
             self.provider = None
+            end_all()
         for dock, action in zip((self.dock, self.register), self.actions):
             if dock is not None:
                 dock.forget()

@@ -168,6 +168,16 @@ def _has_package(python: str) -> bool:
     return ended.returncode == 0 and ended.stdout.strip() == "True"
 
 
+_running: List[subprocess.Popen[bytes]] = []
+"""The processes that have not ended yet."""
+
+
+def end_all() -> None:
+    """Ends all processes, with those that they started: QGIS itself ends, and waits for no task."""
+    for process in list(_running):
+        _end(process)
+
+
 def run(arguments: Sequence[str], folder: str, watcher: Watcher) -> Ended:
     """Runs the package's Python. Raises `NotFound`, and `Cancelled` once all its processes have ended."""
     with tempfile.TemporaryFile(dir=folder) as output:
@@ -179,7 +189,11 @@ def run(arguments: Sequence[str], folder: str, watcher: Watcher) -> Ended:
             stderr=subprocess.PIPE,
             start_new_session=True,
         )
-        errors = _watched(process, watcher)
+        _running.append(process)
+        try:
+            errors = _watched(process, watcher)
+        finally:
+            _running.remove(process)
         output.seek(0)
         return Ended(process.returncode, output.read().decode("utf-8", "replace"), errors)
 

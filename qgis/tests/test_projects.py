@@ -1,13 +1,13 @@
 """Two projects, the batch dialog, and an exit of QGIS while a check runs."""
 from __future__ import annotations
 
+import re
 import subprocess
 from pathlib import Path
 from typing import Any, Dict
 
 import geopandas as gpd
 import pytest
-from conftest import environment
 from driving import driven, screen, started, with_plugin
 from layers_made import CRS, make_street
 from shapely.geometry import Polygon, box
@@ -57,17 +57,16 @@ def test_the_batch_dialog_checks_several_layers(seen: Dict[str, Any]) -> None:
 def test_an_exit_during_a_check_ends_all_that_runs(place: Path) -> None:
     """QGIS closes, and so do the package's process and the program."""
     program, began = place / "slow_tool", place / "began"
-    program.write_text(f"#!/bin/sh\necho $$ > {began}\nsleep 300\n")
+    program.write_text(f"#!/bin/sh\necho ppid $PPID >> {place}/asked\necho $$ > {began}\nexec sleep 300\n")
     program.chmod(0o755)
     with screen() as display:
         with started(display, place, "window_exit.py", GANDOVEL_TOOL=str(program)) as running:
             try:
-                _, errors = running.communicate(timeout=240)
+                running.wait(600)
             except subprocess.TimeoutExpired:
                 running.kill()
                 raise
-    assert (place / "exiting").is_file(), errors[-2000:]
+            assert (place / "exiting").is_file()
     assert has_ended(int(began.read_text()))
-    left = subprocess.run(["pgrep", "-f", f"gandovel.*{place}"], capture_output=True, text=True, check=False).stdout
-    assert left == "", left
-    assert environment(place)
+    asked = re.findall(r"ppid (\d+)", (place / "asked").read_text())
+    assert asked and all(has_ended(int(parent)) for parent in asked)
