@@ -50,6 +50,11 @@ def layers_of(case: planted.Case, folder: Path) -> Tuple[Path, Path]:
     return Path(case.source), path
 
 
+def unit_of(frame: gpd.GeoDataFrame) -> float:
+    """How many metres the unit of a layer has."""
+    return float(frame.crs.axis_info[0].unit_conversion_factor)
+
+
 def answer(number: int, layer: Path, distance: float, built: Path) -> Dict[str, Any]:
     """What a program says of a layer, with its seconds and MiB; or why it gave up, which is a result, too."""
     words = [
@@ -98,7 +103,7 @@ def rows_of(ways: List[str], seeds: int, built: Path, done: Dict[Tuple[str, int,
                 case = planted.case(way, seed, Path(folder))
                 source, layer = layers_of(case, Path(folder))
                 kept = gpd.read_file(layer)
-                distance = case.distance / 1000 / kept.crs.axis_info[0].unit_conversion_factor
+                distance = case.distance / 1000 / unit_of(kept)
                 for at, peer in enumerate(PEERS):
                     row = done.get((way, seed, peer.name))
                     given = source if peer.reads_curves else layer

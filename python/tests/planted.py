@@ -79,7 +79,8 @@ class Case:
         lie nearest to where it was planted."""
         fault = self.planted[at]
         rows = kept[kept["parcel_no"].isin(fault.numbers)].geometry
-        corners = np.concatenate([np.asarray(shape.exterior.coords)[:, :2] for shape in rows])
+        parts = [part for shape in rows for part in getattr(shape, "geoms", [shape])]
+        corners = np.concatenate([np.asarray(part.exterior.coords)[:, :2] for part in parts])
         planted = self.there(gpd.GeoDataFrame(geometry=[fault.shape], crs=METRIC)).geometry.iloc[0].exterior.coords
         nearest = [corners[np.hypot(*(corners - corner).T).argmin()] for corner in np.asarray(planted)[:-1, :2]]
         return Polygon(nearest).area

@@ -13,7 +13,7 @@ from planted import case
 
 BENCHES = Path(__file__).resolve().parents[2] / "benches"
 sys.path.insert(0, str(BENCHES))
-from compare.__main__ import score  # noqa: E402
+from compare.__main__ import layers_of, score, unit_of  # noqa: E402
 from compare.peers import PEERS, geos, rows_said  # noqa: E402
 from compare.tables import Row, Score, by_way, page_part  # noqa: E402
 
@@ -41,6 +41,17 @@ def test_areas_of_planted_faults_are_those_of_the_layer_as_it_is_kept(made):
     for at, area in zip(found, faults["area_m2"]):
         assert one.kept_area(at, kept) == pytest.approx(area, abs=1e-6)
         assert one.kept_area(at, kept) != pytest.approx(one.planted[at].area, abs=1e-6)
+
+
+def test_areas_of_a_geodatabase_in_feet(tmp_path):
+    """Its shapes are of one part each in a list of parts, its areas in square feet; the distance is in feet, too."""
+    pytest.importorskip("osgeo")
+    one = case("hundredths of feet", SEED, tmp_path)
+    _, layer = layers_of(one, tmp_path)
+    kept = gpd.read_file(layer)
+    assert unit_of(kept) == pytest.approx(0.3048006096)
+    for at, fault in enumerate(one.planted):
+        assert one.kept_area(at, kept) * unit_of(kept) ** 2 == pytest.approx(fault.area, rel=0.25)
 
 
 def test_a_fault_is_matched_once_and_only_at_its_place(made):
