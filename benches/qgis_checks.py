@@ -5,8 +5,8 @@
   qgis_checks.py [PROGRAM] [--sizes N[,N..]] [--live] [--technician]
 
 With --live, what it takes to check one changed parcel among so many while one edits, in place of these: the slowest of
-ten, in seconds of a processor. With --technician, a window in which 100 parcels of a layer of 40,000 are edited with the
-dock open, and what is seen there (it needs Xvfb, and some ten minutes).
+ten, in seconds of a processor. With --technician, a window in which 100 parcels of a layer of 40,000 are edited with
+the dock open, and what is seen there (it needs Xvfb, and some ten minutes).
 
 PROGRAM is the built parcel_tool, or what GANDOVEL_TOOL names. The registers are those of python_package.py. Each
 algorithm runs once, in a process of its own, whose QGIS reads the plugin of this folder. A line for each has the

@@ -41,7 +41,8 @@ def counts(rows: List[Row]) -> str:
 def programs(rows: List[Row]) -> List[str]:
     """A row for each program: what it is given, what it takes, how exact it is, and all its counts."""
     lines = [
-        "| Program | It is given | Found / missed / false | Areas off by at most | Processor's seconds a register | MiB |",
+        "| Program | It is given | Found / missed / false | Areas off by at most "
+        "| Processor's seconds a register | MiB |",
         "|---|---|---|---|---|---|",
     ]
     for peer in PEERS:
@@ -69,7 +70,8 @@ def page_part(rows: List[Row], ways: List[str], seeds: int) -> str:
     each = "one drawn register" if seeds == 1 else f"{seeds} drawn registers"
     head = (
         f"Of {len(ways)} ways to keep a register {each} each, of 50 to 500 parcels. Areas are compared with the ring of"
-        " the fault's four corners as the layer keeps them. Seconds are those of processors, memory is that of the largest"
+        " the fault's four corners as the layer keeps them. Seconds are those of processors, memory is that of the"
+        " largest"
         " process; the time in which PostGIS takes a layer in is not counted."
     )
     middle = "Faults found / missed / false, by the way in which the registers are kept:"

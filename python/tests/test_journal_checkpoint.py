@@ -365,7 +365,10 @@ def test_a_checkpoint_that_is_killed_leaves_nothing(layer, registers, tmp_path):
     """It comes to stand by one rename: what a kill leaves is a folder with a dot, and the journal as it was."""
     command = ["gandovel", "journal", "--checkpoint", registers / "early.txt", "--of", layer, "--out", tmp_path / "new"]
     text = (registers / "early.txt").read_bytes()
-    script = "import os, sys; from gandovel.cli import main; os.rename = lambda *_: os.kill(os.getpid(), 9); main(sys.argv[1:])"
+    script = (
+        "import os, sys; from gandovel.cli import main; "
+        "os.rename = lambda *_: os.kill(os.getpid(), 9); main(sys.argv[1:])"
+    )
     ended = subprocess.run(
         [sys.executable, "-c", script, *map(str, command[1:])], capture_output=True, env=environment()
     )

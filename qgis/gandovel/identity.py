@@ -14,7 +14,7 @@ Corner = Tuple[int, int]
 
 
 def identity_of(kind: str, layer: str, shape: Any, millimetres: float) -> str:
-    """The identity of a fault of this kind in a layer (parcels, zones); its shape is in a unit of so many millimetres."""
+    """The identity of a fault of this kind in a layer (parcels, zones); its shape is in a unit of so many mm."""
     polygon = shape.asMultiPolygon()[0] if shape.isMultipart() else shape.asPolygon()
     rings = [_plain([_whole(corner, millimetres) for corner in ring[:-1]]) for ring in polygon]
     parts = [kind, layer, *map(_text, [rings[0], *sorted(ring for ring in rings[1:] if ring)])]

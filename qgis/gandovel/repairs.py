@@ -21,8 +21,8 @@ OF_MEASURED = 4
 LEAST_SHARE = 0.1
 """A neighbour whose border with a gap is shorter than this share of the longest is not proposed."""
 MOST_OF_FAULT, LEAST_OF_FAULT = 3.0, 0.05
-"""How many times a fault's area moving one corner may change at most: a corner that is off leaves a gap on one side, and
-overlaps on the other. And how much of the fault's area any repair changes at least."""
+"""How many times a fault's area moving one corner may change at most: a corner that is off leaves a gap on one side,
+and overlaps on the other. And how much of the fault's area any repair changes at least."""
 Shapes = Dict[int, QgsGeometry]
 ODD, MISSING, LONGEST, GIVE, KEEP = "odd", "missing", "longest", "give", "keep"
 """The rules of candidates: what "all of this kind" repeats."""
@@ -176,8 +176,8 @@ def _giving(fault: Fault, shapes: Shapes, names: Callable[[int], str], near: flo
 
 
 def _cleaned(changed: QgsGeometry, feature: int, shapes: Shapes, near: float) -> QgsGeometry:
-    """The changed shape of a feature, whose new corners are the very ones of its neighbours where they are near, without
-    needles: a part that is narrower than what touches would be taken for one line, and bend what it touches."""
+    """The changed shape of a feature, whose new corners are the very ones of its neighbours where they are near,
+    without needles: a part that is narrower than what touches would be taken for one line, and bend what it touches."""
     kept = QgsGeometry(changed)
     others = [shape for at, shape in shapes.items() if at != feature]
     for at, vertex in enumerate(list(kept.vertices())):

@@ -127,8 +127,9 @@ def make_street(path: Path) -> None:
 
 
 def make_town(path: Path, rows: int, columns: int, planted: int) -> Dict[str, int]:
-    """Writes rows of parcels whose sides do not meet, in whole millimetres, with so many faults: gaps and overlaps 30 cm
-    wide, and lower parcels that meet 40 cm short of the upper one, which has no corner there. How many of each kind."""
+    """Writes rows of parcels whose sides do not meet, in whole millimetres, with so many faults: gaps and overlaps 30
+    cm wide, and lower parcels that meet 40 cm short of the upper one, which has no corner there. How many of each kind.
+    """
     wide, deep = 17.0, 0.4
     cuts = [
         [0.0, *(wide * (at + 0.3 * ((row * 7 + at * 3) % 5) / 5) for at in range(1, columns)), wide * columns]

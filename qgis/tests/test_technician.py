@@ -27,9 +27,9 @@ def seen(tmp_path_factory: pytest.TempPathFactory) -> Dict[str, Any]:
         found = driven(display, folder, "window_technician.py", seconds=7200, **more)
     clock, processor = ([one[name] for one in found["edits"]] for name in ("seconds", "processor"))
     print(
-        f"\n{SIDE * SIDE} parcels, {len(found['edits'])} edits: a fault is seen after {statistics.median(clock):.2f} s on "
-        f"the clock ({max(clock):.2f} at most), {statistics.median(processor):.3f} s of a processor ({max(processor):.3f} "
-        f"at most); first check {found['check']:.1f} s, live checking ready after {found['loaded']:.1f} s more"
+        f"\n{SIDE * SIDE} parcels, {len(found['edits'])} edits: a fault is seen after {statistics.median(clock):.2f} s "
+        f"on the clock ({max(clock):.2f} at most), {statistics.median(processor):.3f} s of a processor "
+        f"({max(processor):.3f} at most); first check {found['check']:.1f} s, live checking ready after {found['loaded']:.1f} s more"
     )
     return {**found, "counts": counts}
 

@@ -156,7 +156,8 @@ def test_the_zip_brings_its_side_of_the_package_and_the_program(qgis: Any, tmp_p
     words = ["-m", "gandovel", "report", two(tmp_path), "--number", "parcel_no", "--zones", zones]
     code = (
         "import sys; sys.path.insert(0, sys.argv[1]); from gandovel import program; import subprocess; "
-        "sys.exit(subprocess.run([program.find_python(), *sys.argv[2:]], env=program.environment(), cwd='/').returncode)"
+        "sys.exit(subprocess.run([program.find_python(), *sys.argv[2:]], env=program.environment(), cwd='/')"
+        ".returncode)"
     )
     words = ["/usr/bin/python3", "-c", code, tmp_path / "plugins", *words, "--out", tmp_path / "report.gpkg"]
     ended = subprocess.run(words, env=environment, capture_output=True, text=True, check=False)

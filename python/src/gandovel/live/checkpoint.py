@@ -1,4 +1,4 @@
-"""A register that goes on from a checkpoint: a journal over the layer that an earlier journal led to, with the ids kept.
+"""A register that goes on from a checkpoint: a journal over the layer that an earlier one led to, with the ids kept.
 
 A checkpoint is a folder that `gandovel journal --checkpoint` wrote. Its session numbers parcels and entries anew; here
 they have the ids and numbers under which the register has always known them (`Ids`, as a recut of districts).
