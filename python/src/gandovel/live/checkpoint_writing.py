@@ -15,6 +15,7 @@ from ..metropolis.ids import Ids
 from ..metropolis.manifest import synchronise
 from ..program.layer_files import read_rings, write_rings
 from ..reading.prepared import OUT_ROW, Prepared, load
+from ..whole_file import synchronise_folder
 from .answers import accepted_of
 from .checkpoint import BEFORE, FACTS, IDS, JOURNAL, ORIGIN, Checkpoint, Past, checkpoint_of, is_checkpoint, sum_of
 from .checkpoint import text_of
@@ -94,15 +95,6 @@ def make_checkpoint(path: Path, of: Path, out: Path, island: Optional[int] = Non
     finally:
         shutil.rmtree(aside, ignore_errors=True)
     return checkpoint_of(out)
-
-
-def synchronise_folder(folder: Path) -> None:
-    """Brings a folder's own list of files to the disk."""
-    handle = os.open(folder, os.O_RDONLY | os.O_DIRECTORY | os.O_CLOEXEC)
-    try:
-        os.fsync(handle)
-    finally:
-        os.close(handle)
 
 
 def _source_of(of: Path, island: Optional[int]) -> Source:
