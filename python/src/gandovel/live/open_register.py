@@ -150,8 +150,7 @@ class OpenRegister:
             names = (OWN_DESK, *desks) if desks else ()
             if witness is not None and journal is None and checkpoint is None:
                 raise Refused("P20", f"{os.fspath(witness)}: a witness is of a journal: name the journal, too")
-            more = {"desks": names, "timeout": timeout, "witness": witness}
-            self.session = Session(*self._layers, journal=self.journal, **more)  # type: ignore[arg-type]
+            self.session = Session(*self._layers, journal=self.journal, desks=names, timeout=timeout, witness=witness)
         except JournalRefused as fault:
             self._folder.cleanup()
             words = _ADVICE.get(fault.code, "this edit does not fit the layer: give the layer that the journal is of")

@@ -155,7 +155,7 @@ class Witness:
         """The bytes of the witness, as they were read or written last."""
         self.number = -1
         """The entry that it has; -1 where it has none yet."""
-        self._is_new = self._present is None
+        self._is_new = self._present is None and os.path.exists(self._journal)
         if self._present is not None:
             self.number = self._compared(self._present)
         self._owner = os.getpid()
