@@ -50,6 +50,7 @@ def open(
     island: Optional[int] = None,
     desks: Sequence[str] = (),
     timeout: Optional[float] = None,
+    witness: Optional[PathLike] = None,
     **options: Unpack[Options],
 ) -> "OpenRegister":
     """Opens a register for edits and questions, as frames in its own numbers and its own unit.
@@ -67,6 +68,8 @@ def open(
         The names of other clerks' desks, seven at most, which are opened by `gandovel.Desk.at(register.path(NAME))`.
     timeout : float, optional
         Seconds that the start and each call may take.
+    witness : path, optional
+        A file on another disk, which keeps the end of the journal, too: the next start with it misses a lost end.
 
     Returns
     -------
@@ -76,7 +79,7 @@ def open(
     Raises
     ------
     Refused
-        H2 where the parcels do not tile, P13 where the city has several parts and none is named, and as `prepare` does.
+        H2 where the parcels do not tile, P20 where the journal is not that of the witness, P13 where the city has several parts and none is named, and as `prepare` does.
     JournalRefused
         The journal is another layer's, or changed; `JournalInUse`: it is open elsewhere.
 
@@ -103,7 +106,7 @@ def open(
     test_editable(prepared.islands[(island or 1) - 1])
     if checkpoint is not None and island != checkpoint.island:
         raise Refused("P13", f"island={island}: the checkpoint {parcels} is of part {checkpoint.island}", "parcels")
-    return OpenRegister(prepared, (island or 1) - 1, journal, desks, timeout, checkpoint)
+    return OpenRegister(prepared, (island or 1) - 1, journal, desks, timeout, checkpoint, witness)
 
 
 class OpenRegister:
@@ -129,6 +132,7 @@ class OpenRegister:
         desks: Sequence[str],
         timeout: Optional[float],
         checkpoint: Optional[Checkpoint] = None,
+        witness: Optional[PathLike] = None,
     ) -> None:
         """Begins the session; `open` says what is taken, and `at` is the island, from 0."""
         self.prepared, self._at, self._checkpoint = prepared, at, checkpoint
@@ -144,7 +148,9 @@ class OpenRegister:
                 self._layers = checkpoint.layers
                 self.journal = str(checkpoint.journal) if journal is None else self.journal
             names = (OWN_DESK, *desks) if desks else ()
-            self.session = Session(*self._layers, journal=self.journal, desks=names, timeout=timeout)
+            if witness is not None and journal is None and checkpoint is None:
+                raise Refused("P20", f"{os.fspath(witness)}: a witness is of a journal: name the journal, too")
+            self.session = Session(*self._layers, journal=self.journal, desks=names, timeout=timeout, witness=witness)
         except JournalRefused as fault:
             self._folder.cleanup()
             words = _ADVICE.get(fault.code, "this edit does not fit the layer: give the layer that the journal is of")

@@ -10,22 +10,22 @@ An edit that was answered by an `Accepted` is in the journal on the disk.
 from __future__ import annotations
 
 import os
-import re
-import secrets
 import subprocess
 import tempfile
+import threading
+import weakref
 from types import TracebackType
 from typing import IO, Any, Callable, List, Optional, Sequence, Tuple, Type
 
-from ..errors import ProgramEnded, Refused, SessionClosed, TimedOut
+from ..errors import ProgramEnded, Refused, SessionClosed, SessionError, TimedOut
 from ..program.tool import PathLike, find_tool
 from .answers import Overlaps, Tiling, count_of, overlaps_of, start_refused, test_error, tiling_of
 from .desk_calls import Calls
+from .greeting import greeted
 from .own_folder import OwnFolder
-from .pipes import Wire, left_of, limit_of, open_pipes, pause
+from .pipes import Wire, left_of, limit_of
+from .witness import SessionWitness
 
-LINE_END = b"#\n"
-"""Ends what an earlier client left of a line, so that it is no edit."""
 MOST_NOTES = 1 << 20
 """How many bytes of standard error are looked at."""
 PATIENCE = 5.0
@@ -44,7 +44,7 @@ class Desk(Calls):
         where there are no such pipes; `DeskTaken` where another client of this package is there (take care that there
         is no other program); `TimedOut`.
         """
-        return cls(_greeted(os.fspath(path), limit_of(timeout), lambda: None), timeout)
+        return cls(greeted(os.fspath(path), limit_of(timeout), lambda: None), timeout)
 
     def close(self) -> None:
         """Leaves the desk, for another client. A second call does nothing; any other is a `SessionClosed` then."""
@@ -100,17 +100,21 @@ class Session(Calls):
         desks: Sequence[str] = (),
         workers: Optional[int] = None,
         timeout: Optional[float] = None,
+        witness: Optional[PathLike] = None,
     ) -> None:
         """Starts the program on a layer, whose files are in `unit` (mm, cm or m), and waits until it is ready.
 
         The edits of `journal` are made first, and each further edit is written to it; it is made where it isn't there.
         Each name of `desks`, eight at most, gets two named pipes in a folder of the session's own. `workers` is
         handed on; an overlay of a session takes one thread all the same. The start and each call may take `timeout`
-        seconds.
+        seconds. The end of the journal is kept in the file `witness`, too, at most a second late and at the close; a
+        journal that is shorter than that is refused P20.
 
         Refused as the program's commands are (H2, S1 ..); `JournalRefused`, `JournalInUse`; `ProgramEnded`; `TimedOut`.
         """
         self._journal = None if journal is None else os.fspath(journal)
+        self._witness = None if witness is None else SessionWitness(witness, self._journal)
+        self._turn = threading.RLock()
         self._owner = os.getpid()
         self._folder = OwnFolder()
         self._errors = tempfile.TemporaryFile()
@@ -132,6 +136,9 @@ class Session(Calls):
         super().__init__(wire, timeout)
         try:
             self.replayed = self._begun()
+            if self._witness is not None:
+                self._witness.follow(self.replayed, _asking(weakref.ref(self)))
+                weakref.finalize(self, self._witness.stop).atexit = False
         except BaseException:
             self._end()
             raise
@@ -148,7 +155,7 @@ class Session(Calls):
         It is left when the session is closed.
         """
         limit = self.timeout if timeout is None else timeout
-        desk = Desk(_greeted(self.path(name), limit_of(limit), self._test_running), limit)
+        desk = Desk(greeted(self.path(name), limit_of(limit), self._test_running), limit)
         self._opened = [other for other in self._opened if not other.is_closed] + [desk]
         return desk
 
@@ -255,11 +262,12 @@ class Session(Calls):
 
     def _closed(self) -> int:
         """Asks for the close, unless that was done, and waits for the answer and for the program's end."""
-        if not self._is_closing:
-            self._put("close", False)
-            self._is_closing = True
-        until = limit_of(self.timeout)
-        line = self._answered()[0]
+        with self._turn:
+            if not self._is_closing:
+                self._put("close", False)
+                self._is_closing = True
+            until = limit_of(self.timeout)
+            line = self._answered()[0]
         try:
             status = self._process.wait(left_of(until))
         except subprocess.TimeoutExpired:
@@ -268,6 +276,25 @@ class Session(Calls):
         if status != 0:
             raise self._ended()
         return count_of(line, "closed")
+
+    def ask_all(self, lines: Sequence[str]) -> List[str]:
+        """As `Calls.ask_all`."""
+        self._test_running()
+        with self._turn:
+            return super().ask_all(lines)
+
+    def _exchanged(self, line: str, is_report: bool) -> List[str]:
+        self._test_running()  # before: a forked child may have the turn as another thread held it
+        with self._turn:
+            return super()._exchanged(line, is_report)
+
+    def _shown(self) -> Optional[int]:
+        """How many entries are on the disk, for the witness; None where that is not said."""
+        with self._turn:
+            try:
+                return None if self._is_closing else self.publish()
+            except SessionError:
+                return None
 
     def _put(self, line: str, is_report: bool) -> None:
         self._test_running()
@@ -307,8 +334,14 @@ class Session(Calls):
             self._wire.close()
             self._forget()
             return
-        self._ask_to_end()
-        self._wire.close()
+        if not self._turn.acquire(timeout=PATIENCE):  # the witness waits for a program that does not answer
+            self._process.kill()
+            self._turn.acquire()
+        try:
+            self._ask_to_end()
+            self._wire.close()
+        finally:
+            self._turn.release()
         for end in (lambda: None, self._process.terminate, self._process.kill):
             end()
             try:
@@ -316,6 +349,8 @@ class Session(Calls):
                 break
             except subprocess.TimeoutExpired:
                 pass
+        if self._witness is not None:
+            self._witness.end(self._last)
         self._forget()
 
     def _ask_to_end(self) -> None:
@@ -353,34 +388,14 @@ def _started(command: Sequence[str], errors: IO[bytes]) -> Tuple[subprocess.Pope
         os.close(answers)
 
 
-def _greeted(path: str, until: Optional[float], test_running: Callable[[], None]) -> Wire:
-    """A wire to a desk that answers. `test_running` raises where no session is there any more."""
-    while True:
-        test_running()
-        wire = Wire(*open_pipes(path, until, test_running))
-        try:
-            _greet(wire, until)
-            return wire
-        except ProgramEnded:  # what an earlier client left is at an end: the desk opens its pipes anew
-            wire.close()
-            pause(until)
-        except BaseException:
-            wire.close()
-            raise
+def _asking(session: "weakref.ref[Session]") -> Callable[[], Optional[int]]:
+    """What a witness asks, which keeps no session that nobody has any more."""
 
+    def shown() -> Optional[int]:
+        found = session()
+        return None if found is None else found._shown()
 
-def _greet(wire: Wire, until: Optional[float]) -> None:
-    """Asks for a parcel that nobody asks for, and reads up to the answer: what comes before is an earlier client's."""
-    nobody = 2**62 + secrets.randbits(61)
-    wire.put(LINE_END)
-    wire.put(b"parcel %d\n" % nobody)
-    while True:
-        line = wire.line(until).decode("utf-8", "backslashreplace")
-        if re.fullmatch(f"parcel [0-9]+ {nobody} none", line):
-            wire.test_heard()
-            return
-        if line in ("error: closed", "error: K4", "error: no memory"):
-            test_error(line)
+    return shown
 
 
 def _text(value: Any) -> str:

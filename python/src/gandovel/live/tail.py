@@ -8,6 +8,7 @@ from typing import Dict, List, Optional, Tuple
 from ..errors import BadAnswer, JournalRefused
 from .checkpoint import Checkpoint
 from .journals import Chain, Change, Journal, JournalRecord, changes_of
+from .witness import End
 
 PART = 1 << 20
 """How many bytes are read at once."""
@@ -50,6 +51,11 @@ class Tail:
             self.grown += 1
         if len(self.records) < number:
             raise BadAnswer("journal", f"entry {number} was answered, and is not in the journal")
+
+    def end(self, number: int) -> End:
+        """What a witness tells of the record with this number, or of the layer before the first: as its file has it."""
+        own = number - (0 if self._before is None else self._before.before)
+        return End(own, self.records[number - 1].digest if own else self.layer, self.layer)
 
     def _read_on(self) -> None:
         try:

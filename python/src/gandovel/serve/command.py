@@ -27,6 +27,9 @@ def add_commands(commands: Any) -> None:
         metavar="FILE",
         help="the journal, or of districts the folder of journals; it is made",
     )
+    one.add_argument(
+        "--witness", metavar="FILE", help="keeps the journal's last number and digest on another disk, too; it is made"
+    )
     one.add_argument("--island", type=int, default=1, metavar="N", help="the island of the register (1)")
     one.add_argument("--crs", metavar="EPSG:CODE", help="the projection of a layer that has none")
     one.add_argument("--awake", type=int, metavar="N", help="districts that stay open while nobody asks them (16)")

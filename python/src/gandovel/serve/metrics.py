@@ -5,7 +5,7 @@ from bisect import bisect_left
 from functools import partial
 from itertools import accumulate
 from pathlib import Path
-from typing import Any, Dict, Iterator, List, Protocol, Sized, Tuple
+from typing import Any, Callable, Dict, Iterator, List, Protocol, Sized, Tuple
 
 from prometheus_client import CollectorRegistry, Counter, Gauge, generate_latest
 from prometheus_client.core import CounterMetricFamily, HistogramMetricFamily
@@ -77,6 +77,10 @@ class Metrics:
         memory = Gauge("gandovel_program_bytes", "Memory of the program's two runs", ["run"], registry=self._all)
         for run in ("session", "follower"):
             memory.labels(run).set_function(partial(_memory_of, register, run))
+
+    def show(self, name: str, text: str, value: Callable[[], float]) -> None:
+        """Shows one more value, `gandovel_NAME`."""
+        Gauge(f"gandovel_{name}", text, registry=self._all).set_function(value)
 
     def answered(self, path: str, status: int, seconds: float) -> None:
         """One more request was answered."""

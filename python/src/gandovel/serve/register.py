@@ -14,6 +14,7 @@ from ..errors import BadAnswer, JournalInUse, NoZones, ProgramEnded, Refused
 from ..live.answers import Overlaps, Place, count_of, overlaps_of, place_of, test_error
 from ..live.journals import JournalRecord
 from ..live.tail import Tail
+from ..live.witness import Witness
 from .entries import Asked, Entry
 from .fates import Deadline, Fate
 from .faults import NotServing
@@ -48,8 +49,9 @@ class Register:
     parcel, `state` one of `starting`, `serving`, `restarting`, `broken` and `closed`.
     """
 
-    def __init__(self, layer: Layer, journal: Path, keep: int = 10_000) -> None:
-        """Takes the layer, the journal, which is made where it is not there, and how many entries back are kept."""
+    def __init__(self, layer: Layer, journal: Path, keep: int = 10_000, witness: Optional[Path] = None) -> None:
+        """Takes the layer, the journal, which is made where it is not there, how many entries back are kept, and a file
+        on another disk for the journal's end."""
         self.layer, self.journal, self._keep = layer, journal, keep
         self.published = Published(layer, keep)
         self.entries, self.versions, self.past = self.published.entries, self.published.versions, self.published.past
@@ -60,6 +62,9 @@ class Register:
         self.state, self.restarts, self.trouble = "starting", 0, ""
         self.acknowledged = 0
         """The newest entry that was answered, or that the journal had at a start."""
+        self.witness: Optional[Witness] = None
+        """It writes the journal's end."""
+        self._witness_path = witness
         self._synchronised = 0
         self._room: Optional[Room] = None
         self._tail: Optional[Tail] = None
@@ -73,9 +78,13 @@ class Register:
     # its life
 
     async def start(self) -> None:
-        """Starts the session and reads its journal. Refused as a session's start, `Room` and `Tail` are."""
+        """Starts the session and reads its journal. Refused as a session's start, `Room`, `Tail` and `Witness` are."""
+        if self._witness_path is not None:
+            self.witness = Witness(self._witness_path, self.journal)
         try:
             await self._open_soon()
+            if self.witness is not None:
+                self.witness.start()
         except BaseException:
             self._kill()
             raise
@@ -104,6 +113,8 @@ class Register:
         if self._session is not None and was == "serving":
             await self._session.close()
         self._kill()
+        if self.witness is not None:
+            await asyncio.get_running_loop().run_in_executor(None, self.witness.close)
 
     async def _open(self) -> None:
         """Starts the programs that do not run, and takes in what the journal has beyond what is known."""
@@ -157,6 +168,8 @@ class Register:
         for record in self._tail.records[max(self.acknowledged, len(self.entries)) : number]:
             self.follower.accept(Entry.of(record))
         self.acknowledged = max(self.acknowledged, number)
+        if self.witness is not None:
+            self.witness.saw(self._tail.end(self.acknowledged))
         if self._following is None or self._following.done():
             self._following = self.keep_task(self._follow_and_tell())
 

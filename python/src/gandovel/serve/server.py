@@ -203,6 +203,7 @@ def serve(options: argparse.Namespace) -> None:
         raise Refused("W4", f"without --tokens or --oidc {text}")
     security = _security(options.certfile, options.keyfile)
     folder, journal = Path(options.folder), Path(options.journal).absolute()
+    witness = None if options.witness is None else Path(options.witness).absolute()
     if is_metropolis(folder):
         _serve_metropolis(options, clients, security)
         return
@@ -210,6 +211,8 @@ def serve(options: argparse.Namespace) -> None:
         raise Refused(
             "W2", "the journal may not lie in the layer's folder, which prepare replaces: give it another folder"
         )
+    if witness is not None and folder.resolve() in witness.resolve().parents:
+        raise Refused("W2", "the witness may not lie in the layer's folder: give it another one, best on another disk")
     layer = Layer.of(folder, options.island, options.crs)
     islands = len(layer.prepared.islands)
     if islands > 1:
@@ -220,7 +223,7 @@ def serve(options: argparse.Namespace) -> None:
         print(f"note: {text}", file=sys.stderr, flush=True)
     listener = _listener(options.host, options.port)
     try:
-        _loop()(_run(options, Register(layer, journal, options.keep), clients, listener, security))
+        _loop()(_run(options, Register(layer, journal, options.keep, witness), clients, listener, security))
     finally:
         listener.close()
 
@@ -231,6 +234,8 @@ def _serve_metropolis(
     """Serves a register of districts. Refused W2, W8, P1, P14."""
     from ..metropolis.server import metropolis_of, run_metropolis
 
+    if options.witness is not None:
+        raise Refused("W2", "--witness is of one journal, and districts have one each: leave it out")
     metropolis = metropolis_of(options)
     listener = _listener(options.host, options.port)
     try:
@@ -270,6 +275,9 @@ async def _run(
     register = await _started(register, options.island)
     gc.freeze()  # what is there now stays: no search for what is lost goes through it
     metrics = Metrics(register)
+    witness = register.witness
+    if witness is not None:
+        metrics.show("witness_entries", "The last entry of the journal that its witness has", lambda: witness.number)
     base_map = getattr(options, "base_map", None)
     site, proxies = Site(register, metrics, options.url, base_map), os.environ.get("FORWARDED_ALLOW_IPS", "127.0.0.1")
     inner = application(site, options.oidc)
