@@ -29,7 +29,8 @@ def seen(tmp_path_factory: pytest.TempPathFactory) -> Dict[str, Any]:
     print(
         f"\n{SIDE * SIDE} parcels, {len(found['edits'])} edits: a fault is seen after {statistics.median(clock):.2f} s "
         f"on the clock ({max(clock):.2f} at most), {statistics.median(processor):.3f} s of a processor "
-        f"({max(processor):.3f} at most); first check {found['check']:.1f} s, live checking ready after {found['loaded']:.1f} s more"
+        f"({max(processor):.3f} at most); first check {found['check']:.1f} s, "
+        f"live checking ready after {found['loaded']:.1f} s more"
     )
     return {**found, "counts": counts}
 
