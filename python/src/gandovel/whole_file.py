@@ -43,12 +43,3 @@ def whole_file(path: Union[str, "os.PathLike[str]"]) -> Iterator[Path]:
             yield aside
     except OSError as fault:
         raise Refused("P14", f"{path} can't be written: {fault}") from fault
-
-
-def synchronise_folder(folder: Path) -> None:
-    """Brings a folder's own list of files to the disk. OSError."""
-    handle = os.open(folder, os.O_RDONLY | os.O_DIRECTORY | os.O_CLOEXEC)
-    try:
-        os.fsync(handle)
-    finally:
-        os.close(handle)

@@ -79,7 +79,8 @@ def open(
     Raises
     ------
     Refused
-        H2 where the parcels do not tile, P20 where the journal is not that of the witness, P13 where the city has several parts and none is named, and as `prepare` does.
+        H2 where the parcels do not tile, P20 where the journal is not that of the witness, P13 where the city has
+        several parts and none is named, and as `prepare` does.
     JournalRefused
         The journal is another layer's, or changed; `JournalInUse`: it is open elsewhere.
 
