@@ -9,4 +9,5 @@ pub mod JournalRows
 pub mod EditResults
 pub mod Tenfold
 pub mod Refusals
+pub mod Transactions
 pub mod own
