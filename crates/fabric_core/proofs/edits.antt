@@ -18,3 +18,4 @@ pub mod Booked
 pub mod Drafts
 pub mod Copied
 pub mod Bends
+pub mod Turns

@@ -450,15 +450,19 @@ impl<'a, H: Allocator> Fabric<'a, H> {
             → IsFirstRefused self.old.now self.old.journal clerk edits.now place refusal
             → IfErr result (λ e. (e.place ≤ place) × (e.place ≡ place → NeedsNoMemory refusal → e.refusal ≡ refusal)) }
     {
-        let Ok(before) = self.copy() else {
+        let Ok(before) = self.tiled.copy() else {
             let refusal = self.refusal_or_memory(clerk, &edits[0]);
             return Err(RefusedEdit { place: 1, refusal });
         };
         let heap = self.tiled.allocator();
+        let entries = self.journal.len();
+        let corners = self.corners;
         match make_in_turn(heap, self, clerk, edits) {
             Ok(entries) => Ok(entries),
             Err(refused) => {
-                *self = before;
+                self.tiled = before;
+                self.corners = corners;
+                self.journal.truncate(entries);
                 Err(refused)
             }
         }

@@ -51,18 +51,17 @@ pub(crate) fn make_in_turn<'a, H: Allocator>(
 {
     fabric.use_balance();
     let mut entries = Vec::new(heap);
-    for (index, edit) in edits.iter().enumerate() {
-        let place = index as u32 + 1;
+    let mut place: u32 = 1;
+    for edit in edits {
         let entry = match fabric.edit(clerk, edit) {
             Ok(entry) => entry,
             Err(refusal) => return Err(RefusedEdit { place, refusal }),
         };
         if entries.push(entry).is_err() {
-            return Err(RefusedEdit {
-                place,
-                refusal: Refusal::NoMemory,
-            });
+            let refusal = Refusal::NoMemory;
+            return Err(RefusedEdit { place, refusal });
         }
+        place += 1;
     }
     Ok(entries)
 }
