@@ -18,4 +18,3 @@ pub mod Booked
 pub mod Drafts
 pub mod Copied
 pub mod Bends
-pub mod Turns

@@ -9,5 +9,4 @@ pub mod JournalRows
 pub mod EditResults
 pub mod Tenfold
 pub mod Refusals
-pub mod Transactions
 pub mod own

@@ -1,7 +1,6 @@
 //! The fabric: a layer that clerks edit, with its journal.
 
-ghost use Rattle.std.specs.Prelude.{◌≡◌, ◌≢◌, ◌⊎◌, ◌↔◌, ◌+◌, ◌<◌, ◌≤◌, ◌≤ℤ◌, ℕ, List, [], ◌∷◌, ◌++◌};
-ghost use Rattle.std.specs.Prelude.{length, map, IfOk};
+ghost use Rattle.std.specs.Prelude.{◌≡◌, ◌≢◌, ◌⊎◌, ◌↔◌, ◌+◌, ◌≤◌, ◌≤ℤ◌, ℕ, List, [], ◌∷◌, ◌++◌, length, map, IfOk};
 ghost use Rattle.std.specs.Prelude.{IfErr, IsErrAnd, IsErrOf, IsOk, OnOk, OnErr, MatchOption};
 ghost use Rattle.std.specs.List.{All, Contains};
 ghost use Rattle.std.specs.List.Sorted.{IsStrictlyIncreasing};
@@ -24,9 +23,6 @@ ghost use Rattle.fabric_core.specs.GridIndex.{IsIndexed, IsCandidate};
 ghost use Rattle.fabric_core.specs.Locate.{IsLocatedAt};
 ghost use Rattle.fabric_core.specs.Journal.{opening_state, after_entry, replay};
 ghost use Rattle.fabric_core.specs.EditResults.{IsEntryOf, IsLawful, IsDue};
-ghost use Rattle.fabric_core.specs.Transactions.{IsFirstRefused, IsTransaction};
-ghost use Rattle.fabric_core.specs.declared.journal.TheConstants.{TRANSACTION_EDITS};
-ghost use Rattle.fabric_core.specs.own.Balanced.{IsBalanced};
 ghost use Rattle.fabric_core.specs.declared.follow.FollowFault.TheVariants.{NotDue, NoMemory as NoRoom};
 ghost use Rattle.fabric_core.specs.Refusals.{IsCityBent, IsFirstBent, IsRefusal, NeedsNoMemory};
 ghost use Rattle.geo_exact.specs.declared.corner.Corner.{Corner as CornerValue};
@@ -44,7 +40,6 @@ use crate::opening::{Opening, count_corners};
 use crate::refusal::Refusal;
 use crate::tenfold::{ScaleFault, least_far_of_entries, tenfold_entries};
 use crate::tiled::Tiled;
-use crate::transaction::{RefusedEdit, make_in_turn};
 use geo_exact::Corner;
 use parcel_table::{Ids, Shapes};
 use ring_core::{Ring, Shape};
@@ -235,15 +230,6 @@ impl<'a, H: Allocator> Fabric<'a, H> {
         self.tiled.use_invariant();
     }
 
-    /// Only teaches the prover: the parcels with which the fabric was opened ascend by id, and go alike with the city.
-    pub(crate) fn use_balance(&self)
-        ensures balanced { IsBalanced self.now.opening }
-        ensures lawful { IsLawful self.now.opening self.now.journal }
-        ensures replays { replay self.now.opening self.now.journal ≡ self.now.now }
-    {
-        let _ = &self.tiled;
-    }
-
     /// The journal: all entries since the fabric was opened, in order.
     pub fn journal(&self) -> &[Entry<&'a H>]
         ensures { result.now ≡ self.now.journal }
@@ -389,83 +375,6 @@ impl<'a, H: Allocator> Fabric<'a, H> {
         let entry = draft.entry.clone()?;
         self.corners = carry_out(&mut self.tiled, &mut self.journal, draft)?;
         Ok(entry)
-    }
-
-    /// Why an edit is refused, where it is and memory serves to see it; else want of memory. Nothing is made.
-    fn refusal_or_memory(&self, clerk: u32, edit: &Edit<&'a H>) -> Refusal
-        ensures refusal { IsRefusal self.now.now self.now.journal edit.now result ⊎ (result ≡ NoMemory) }
-        ensures exact { (refusal : Refusal) → IsRefusal self.now.now self.now.journal edit.now refusal
-            → NeedsNoMemory refusal
-            → result ≡ refusal }
-    {
-        if self.journal.len() >= JOURNAL_ENTRIES {
-            return Refusal::JournalFull;
-        }
-        let number = self.journal.len() as u64 + 1;
-        match draft_of(&self.tiled, self.corners, number, clerk, edit) {
-            Ok(_) => Refusal::NoMemory,
-            Err(refusal) => refusal,
-        }
-    }
-
-    /// Makes several edits as one: each in the state that those before it lead to, and the journal gets their entries;
-    /// or none of them.
-    ///
-    /// # Errors
-    ///
-    /// The first edit that is refused, by its place from 1, with what [`Fabric::edit`] would refuse it for in that
-    /// state; nothing has changed then. Where an allocation fails, it is [`Refusal::NoMemory`] at the edit that was to
-    /// be made.
-    ///
-    /// ```
-    /// // Of parcels 1 and 2, neighbours: 3 comes and goes again.
-    /// let entries = fabric.edit_all(clerk, &[Edit::Merge { a: 1, b: 2 }, Edit::Split { id: 3, path }])?;
-    /// ```
-    pub fn edit_all(
-        &mut self,
-        clerk: u32,
-        edits: &[Edit<&'a H>],
-    ) -> Result<Vec<Entry<&'a H>, &'a H>, RefusedEdit>
-        requires some { 0 < length edits.now }
-        requires few { length edits.now ≤ TRANSACTION_EDITS }
-        // Accepted edits: the entries are those of the transaction of these edits by this clerk on the state before.
-        ensures made { IfOk result (λ entries.
-            IsTransaction self.old.now (length self.old.journal + 1) clerk edits.now entries.items) }
-        // They change the state as the journal's replay does, and stand last in the journal.
-        ensures now { IfOk result (λ entries. self.new.now ≡ replay self.old.now entries.items) }
-        ensures journal { IfOk result (λ entries. self.new.journal ≡ self.old.journal ++ entries.items) }
-        ensures city { self.new.city ≡ self.old.city }
-        ensures opening { self.new.opening ≡ self.old.opening }
-        // Where one is refused, nothing has changed, and it is the first that is.
-        ensures unchanged { OnErr result (self.new ≡ self.old) }
-        ensures refusal { IfErr result (λ refused.
-            IsFirstRefused self.old.now self.old.journal clerk edits.now refused.place refused.refusal
-            ⊎ (refused.refusal ≡ NoMemory)) }
-        ensures refuses { (place : ℕ) (refusal : Refusal)
-            → IsFirstRefused self.old.now self.old.journal clerk edits.now place refusal
-            → IsErrAnd result (λ e. ((e.place ≡ place) × (e.refusal ≡ refusal)) ⊎ (e.refusal ≡ NoMemory)) }
-        // Memory runs out at no edit behind the first that is refused, and not at that one where its refusal is told
-        // whatever memory there is.
-        ensures exact { (place : ℕ) (refusal : Refusal)
-            → IsFirstRefused self.old.now self.old.journal clerk edits.now place refusal
-            → IfErr result (λ e. (e.place ≤ place) × (e.place ≡ place → NeedsNoMemory refusal → e.refusal ≡ refusal)) }
-    {
-        let Ok(before) = self.tiled.copy() else {
-            let refusal = self.refusal_or_memory(clerk, &edits[0]);
-            return Err(RefusedEdit { place: 1, refusal });
-        };
-        let heap = self.tiled.allocator();
-        let entries = self.journal.len();
-        let corners = self.corners;
-        match make_in_turn(heap, self, clerk, edits) {
-            Ok(entries) => Ok(entries),
-            Err(refused) => {
-                self.tiled = before;
-                self.corners = corners;
-                self.journal.truncate(entries);
-                Err(refused)
-            }
-        }
     }
 
     /// Makes the edit of an entry that another fabric's journal has, if the entry is due here: if it

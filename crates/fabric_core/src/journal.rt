@@ -13,9 +13,6 @@ use std::marker::Model;
 /// with a place for each stays small.
 pub const JOURNAL_ENTRIES: usize = 1_048_576;
 
-/// The most edits of a transaction, 2 ^ 10: a plan of subdivision has some hundreds, and their line is one to read.
-pub const TRANSACTION_EDITS: usize = 1_024;
-
 /// A parcel as a journal has it: its ring under its id. Corners are in whole millimetres.
 #[derive(Debug, Drop)]
 pub struct Row<A: Allocator> {

@@ -20,14 +20,6 @@ ghost use Rattle.fabric_core.specs.Faults.{AreSimple};
 ghost use Rattle.fabric_core.specs.GridIndex.{IsIndexed, ReachesCell};
 ghost use Rattle.fabric_core.specs.Locate.{IsInsideOf, IsInsideOneOnly, IsOnEdgeOf};
 ghost use Rattle.fabric_core.specs.Rows.{AreRefined, IsUntiledBeside};
-ghost use Rattle.ring_edits.specs.declared.edit.Edit.{Edit};
-ghost use Rattle.fabric_core.specs.declared.refusal.Refusal.{Refusal};
-ghost use Rattle.fabric_core.specs.Journal.{State, JournalEntry};
-ghost use Rattle.fabric_core.specs.EditResults.{IsEntryOf};
-ghost use Rattle.fabric_core.specs.Refusals.{IsRefusal};
-ghost use Rattle.fabric_core.specs.Transactions.{IsFirstRefused, IsTransaction};
-
-use std::alloc::Allocator;
 
 /// Rows that are made up of counterclockwise triangles, and have the net edges of a city that goes
 /// round no point twice, tile the city. The city's edges may be noded.
@@ -104,16 +96,4 @@ pub fn an_id_stands_in_the_cells_that_its_row_reaches()
 /// A journal is full with 1,048,576 entries: so many the page of limits allows, and not one fewer.
 pub fn a_journal_has_room_for_so_many_entries()
     ensures { JOURNAL_ENTRIES ≡ 1048576 }
-{}
-
-/// A transaction of one edit is that edit: it has the edit's entry, and it is refused, at its first place, for what
-/// refuses the edit.
-pub fn a_transaction_of_one_is_its_edit<A: Allocator>()
-    ensures entry { (state : State) (number clerk : ℕ) (edit : Edit A) (entry : JournalEntry A)
-        → IsTransaction state number clerk (edit ∷ []) (entry ∷ [])
-        ↔ ((entry.edit ≡ edit) × (entry.clerk ≡ clerk) × (entry.number ≡ number) × IsEntryOf state entry) }
-    ensures refusal { (state : State) (journal : List (JournalEntry A)) (clerk : ℕ) (edit : Edit A) (place : ℕ)
-        (refusal : Refusal)
-        → IsFirstRefused state journal clerk (edit ∷ []) place refusal
-        ↔ ((place ≡ 1) × IsRefusal state journal edit refusal) }
 {}

@@ -32,17 +32,16 @@ mod ring_edges;
 mod rings;
 mod tenfold;
 mod tiled;
-mod transaction;
 
 pub use all_faults::{AllFaults, Asked, LoadRefusal};
 pub use box_laws::{a_parcel_that_meets_a_ring_is_a_candidate, rows_lie_in_the_box_of_their_city};
 pub use city::{City, CityFault};
 pub use fabric::{Fabric, Sheet};
 pub use follow::FollowFault;
-pub use journal::{Entry, JOURNAL_ENTRIES, Row, TRANSACTION_EDITS};
+pub use journal::{Entry, JOURNAL_ENTRIES, Row};
 pub use laws::{
     a_journal_has_room_for_so_many_entries, a_place_off_all_edges_is_inside_one_parcel,
-    a_refined_city_keeps_its_ground, a_transaction_of_one_is_its_edit, an_id_stands_in_the_cells_that_its_row_reaches,
+    a_refined_city_keeps_its_ground, an_id_stands_in_the_cells_that_its_row_reaches,
     an_unbalanced_edge_is_no_tiling, rows_with_the_nets_of_a_city_tile_it,
     what_is_inside_a_parcel_is_in_no_other,
 };
@@ -51,4 +50,3 @@ pub use locate::At;
 pub use parcel_table::{Ids, Shapes};
 pub use refusal::Refusal;
 pub use tenfold::ScaleFault;
-pub use transaction::RefusedEdit;

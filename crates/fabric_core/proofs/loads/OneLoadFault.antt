@@ -62,7 +62,7 @@ data TwoPlaces {X : Type 0} (before : List X) (x : X) (before' : List X) (x' : X
 pub head_of : {X : Type 0} (x y : X) (xs ys : List X) → x ∷ xs ≡ y ∷ ys → x ≡ y
 head_of x y xs ys e = cc
 
-pub tail_of : {X : Type 0} (x y : X) (xs ys : List X) → x ∷ xs ≡ y ∷ ys → xs ≡ ys
+tail_of : {X : Type 0} (x y : X) (xs ys : List X) → x ∷ xs ≡ y ∷ ys → xs ≡ ys
 tail_of x y xs ys e = cc
 
 two_places : {X : Type 0} (before : List X) (x : X) (behind before' : List X) (x' : X) (behind' : List X)
