@@ -61,10 +61,10 @@ fn make_in_turn<'a, H: Allocator>(
             Ok(entry) => entry,
             Err(refusal) => return Err(RefusedEdit { place, refusal }),
         };
-        if entries.push(entry).is_err() {
+        let Ok(()) = entries.push(entry) else {
             let refusal = Refusal::NoMemory;
             return Err(RefusedEdit { place, refusal });
-        }
+        };
         place += 1;
     }
     Ok(entries)
