@@ -49,7 +49,8 @@ module _ {A : Type 0} (state : State) (journal : List (JournalEntry A)) (clerk :
               (λ n. inr n) refusal;
           refuses = λ p r first. by_less place (length first.before)
               (λ l. ⊎_elim
-              (λ h. absurd (not_here state journal clerk edits place entries p r first same simple_there rise_there edit s l is (there s h)))
+              (λ h. absurd (not_here state journal clerk edits place entries p r first same simple_there rise_there edit s l is
+              (there s h)))
               (λ n. inr n) refusal)
               (λ g. let e : place ≡ length first.before = omega (arith, later p r first, g) in
               ⊎_elim (λ h. inl (is_at ∙ ap (λ n. n + 1) e ∙ sym first.is_place, h)) (λ n. inr n)
@@ -57,7 +58,12 @@ module _ {A : Type 0} (state : State) (journal : List (JournalEntry A)) (clerk :
           exact = λ p r first. (
             omega (arith, later p r first, first.is_place, is_at),
             λ here needs. exact r
-                (back r (is_there state journal clerk edits place entries p r first same edit (omega (arith, here, first.is_place, is_at)) is))
+                (back r (is_there state journal clerk edits place entries p r first same edit (omega (
+                  arith,
+                  here,
+                  first.is_place,
+                  is_at,
+                )) is))
                 needs,
           );
         }

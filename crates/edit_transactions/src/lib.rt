@@ -3,6 +3,4 @@
 
 mod transaction;
 
-pub use transaction::{
-    RefusedEdit, TRANSACTION_EDITS, a_transaction_of_one_is_its_edit, edit_all,
-};
+pub use transaction::{RefusedEdit, TRANSACTION_EDITS, a_transaction_of_one_is_its_edit, edit_all};

@@ -16,7 +16,8 @@ err_is x y e = cc
 
 pub returns-in-Err-clause-refusal : goal.returns-in-Err-clause-refusal
 returns-in-Err-clause-refusal g c =
-    (told c.args.fabric.now.now c.args.fabric.now.journal c.args.clerk c.args.edits.now c.loop-edit.edit-index c.loop-edit.entries.items c.loop-edit.fabric.now
+    (told c.args.fabric.now.now c.args.fabric.now.journal c.args.clerk c.args.edits.now c.loop-edit.edit-index
+    c.loop-edit.entries.items c.loop-edit.fabric.now
     c.loop-edit.fabric.journal c.loop-edit.invariant.now c.loop-edit.invariant.journal c.loop-edit.invariant.turn c.loop-edit.invariant.same
     c.loop-edit.invariant.later c.edit-item.result c.edit-item.is c.use_invariant.ensures.simple
     (subst IsStrictlyIncreasing c.ids-ids.ensures.ids c.ids-ids.ensures.ascending) c.loop-edit-test.true c.loop-edit.place
@@ -25,7 +26,8 @@ returns-in-Err-clause-refusal g c =
 
 pub returns-in-Err-clause-refuses : goal.returns-in-Err-clause-refuses
 returns-in-Err-clause-refuses g c =
-    (told c.args.fabric.now.now c.args.fabric.now.journal c.args.clerk c.args.edits.now c.loop-edit.edit-index c.loop-edit.entries.items c.loop-edit.fabric.now
+    (told c.args.fabric.now.now c.args.fabric.now.journal c.args.clerk c.args.edits.now c.loop-edit.edit-index
+    c.loop-edit.entries.items c.loop-edit.fabric.now
     c.loop-edit.fabric.journal c.loop-edit.invariant.now c.loop-edit.invariant.journal c.loop-edit.invariant.turn c.loop-edit.invariant.same
     c.loop-edit.invariant.later c.edit-item.result c.edit-item.is c.use_invariant.ensures.simple
     (subst IsStrictlyIncreasing c.ids-ids.ensures.ids c.ids-ids.ensures.ascending) c.loop-edit-test.true c.loop-edit.place
@@ -34,7 +36,8 @@ returns-in-Err-clause-refuses g c =
 
 pub returns-in-Err-clause-exact : goal.returns-in-Err-clause-exact
 returns-in-Err-clause-exact g c =
-    (told c.args.fabric.now.now c.args.fabric.now.journal c.args.clerk c.args.edits.now c.loop-edit.edit-index c.loop-edit.entries.items c.loop-edit.fabric.now
+    (told c.args.fabric.now.now c.args.fabric.now.journal c.args.clerk c.args.edits.now c.loop-edit.edit-index
+    c.loop-edit.entries.items c.loop-edit.fabric.now
     c.loop-edit.fabric.journal c.loop-edit.invariant.now c.loop-edit.invariant.journal c.loop-edit.invariant.turn c.loop-edit.invariant.same
     c.loop-edit.invariant.later c.edit-item.result c.edit-item.is c.use_invariant.ensures.simple
     (subst IsStrictlyIncreasing c.ids-ids.ensures.ids c.ids-ids.ensures.ascending) c.loop-edit-test.true c.loop-edit.place
@@ -43,7 +46,8 @@ returns-in-Err-clause-exact g c =
 
 pub returns-in_default-clause-exact : goal.returns-in_default-clause-exact
 returns-in_default-clause-exact g c =
-    (ran_out c.args.fabric.now.now c.args.fabric.now.journal c.args.clerk c.args.edits.now c.loop-edit.edit-index c.loop-edit.entries.items c.loop-edit.fabric.now
+    (ran_out c.args.fabric.now.now c.args.fabric.now.journal c.args.clerk c.args.edits.now c.loop-edit.edit-index
+    c.loop-edit.entries.items c.loop-edit.fabric.now
     c.loop-edit.fabric.journal c.loop-edit.invariant.now c.loop-edit.invariant.journal c.loop-edit.invariant.turn c.loop-edit.invariant.same
     c.loop-edit.invariant.later c.edit-item.result c.edit-item.is
     (λ r h. c.in-Ok.ensures.refuses r h) c.loop-edit.place c.loop-edit.invariant.place).exact
@@ -64,9 +68,11 @@ loop-edit-preserved g c =
     subst (λ (s : State). IsStrictlyIncreasing (numbers s.rows)) c.loop-edit.invariant.now
     (subst IsStrictlyIncreasing c.ids-ids.ensures.ids c.ids-ids.ensures.ascending) in record {
       place = omega (arith, c.loop-edit.invariant.place);
-      turn = subst (IsTransaction start (length c.args.fabric.now.journal + 1) c.args.clerk (take (c.loop-edit.edit-index + 1) c.args.edits.now))
+      turn = subst (IsTransaction start (length c.args.fabric.now.journal + 1) c.args.clerk (take (c.loop-edit.edit-index + 1)
+          c.args.edits.now))
           (sym items)
-          (one_more_made c.args.fabric.now.now c.args.fabric.now.journal c.args.clerk c.args.edits.now c.loop-edit.edit-index c.loop-edit.entries.items c.loop-edit.invariant.turn
+          (one_more_made c.args.fabric.now.now c.args.fabric.now.journal c.args.clerk c.args.edits.now c.loop-edit.edit-index
+          c.loop-edit.entries.items c.loop-edit.invariant.turn
           c.edit-item.result entry c.loop-edit-test.true c.edit-item.is c.in-Ok.ensures.edit c.in-Ok.ensures.clerk number is_entry);
       now = c.in-Ok.ensures.now ∙ ap (λ s. after_entry s entry) c.loop-edit.invariant.now ∙ sym (replay_push start entries entry)
           ∙ ap (replay start) (sym items);
@@ -74,21 +80,26 @@ loop-edit-preserved g c =
           ∙ append_assoc c.args.fabric.now.journal entries (entry ∷ []) ∙ ap (λ xs. c.args.fabric.now.journal ++ xs) (sym items);
       city = c.in-Ok.ensures.city ∙ c.loop-edit.invariant.city;
       opening = c.in-Ok.ensures.opening ∙ c.loop-edit.invariant.opening;
-      same = λ others turn. one_list c.args.fabric.now.now c.args.fabric.now.journal c.args.clerk c.args.edits.now c.loop-edit.edit-index c.loop-edit.entries.items
+      same = λ others turn. one_list c.args.fabric.now.now c.args.fabric.now.journal c.args.clerk c.args.edits.now
+          c.loop-edit.edit-index c.loop-edit.entries.items
           c.loop-edit.invariant.same simple rise c.edit-item.result entry c.loop-edit-test.true c.edit-item.is c.in-Ok.ensures.edit
           c.in-Ok.ensures.clerk number
-          (so_many c.args.fabric.now.now c.args.fabric.now.journal c.args.clerk c.args.edits.now c.loop-edit.edit-index c.loop-edit.entries.items c.loop-edit.invariant.turn (omega (arith, c.loop-edit-test.true)))
+          (so_many c.args.fabric.now.now c.args.fabric.now.journal c.args.clerk c.args.edits.now c.loop-edit.edit-index
+          c.loop-edit.entries.items c.loop-edit.invariant.turn (omega (arith, c.loop-edit-test.true)))
           is_entry others turn
           ∙ sym items;
-      later = λ p r first. later_still c.args.fabric.now.now c.args.fabric.now.journal c.args.clerk c.args.edits.now c.loop-edit.edit-index c.loop-edit.entries.items c.loop-edit.fabric.now
-    c.loop-edit.fabric.journal c.loop-edit.invariant.now c.loop-edit.invariant.journal c.loop-edit.invariant.turn c.loop-edit.invariant.same
-    c.loop-edit.invariant.later c.edit-item.result c.edit-item.is
+      later = λ p r first. later_still c.args.fabric.now.now c.args.fabric.now.journal c.args.clerk c.args.edits.now
+          c.loop-edit.edit-index c.loop-edit.entries.items c.loop-edit.fabric.now
+          c.loop-edit.fabric.journal c.loop-edit.invariant.now c.loop-edit.invariant.journal c.loop-edit.invariant.turn
+          c.loop-edit.invariant.same
+          c.loop-edit.invariant.later c.edit-item.result c.edit-item.is
           (λ r h. c.in-Ok.ensures.refuses r h) p r first;
     }
 
 pub returns-clause-refuses : goal.returns-clause-refuses
 returns-clause-refuses g c = λ p r first.
     let among : length first.before < length c.args.edits.now =
-    within c.args.fabric.now.now c.args.fabric.now.journal c.args.clerk c.args.edits.now c.loop-edit.edit-index c.loop-edit.entries.items p r first
+    within c.args.fabric.now.now c.args.fabric.now.journal c.args.clerk c.args.edits.now c.loop-edit.edit-index
+    c.loop-edit.entries.items p r first
     c.loop-edit.invariant.same in
     omega (arith, c.loop-edit.invariant.later p r first, among, c.loop-edit-test.false)
