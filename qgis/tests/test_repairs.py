@@ -220,13 +220,17 @@ def test_a_corner_that_lies_on_a_border_but_for_rounding_is_not_missing(qgis: An
 
 
 def test_a_corner_that_is_off_sideways_goes_back_to_where_the_others_agree(qgis: Any, tmp_path: Path) -> None:
-    """It overlaps three neighbours, and each is a fault of its own: one move mends them all."""
+    """It overlaps three neighbours: one move mends all that it overlaps."""
     from gandovel.repairs import apply
 
     first = Polygon([(0, 0), (5, 0), (5.2, 10.1), (0, 10)])
     layer = layer_of(tmp_path, first, box(5, 0, 10, 10), box(0, 10, 5, 20), box(5, 10, 10, 20))
     faults = faults_of(layer)
     one = candidates_of(layer, faults[0])[0]
-    assert len(faults) > 1 and one.rule == "odd" and one.moves == pytest.approx(0.2236, abs=0.001)
+    assert (
+        faults[0].numbers == ["1", "2", "3", "4"]
+        and one.rule == "odd"
+        and one.moves == pytest.approx(0.2236, abs=0.001)
+    )
     apply(layer, one.title, one.changes)
     assert run("checkparcels", INPUT=layer, NUMBER_FIELD="parcel_no", FAULTS=M)["VERDICT"] == "tiles"
