@@ -5,6 +5,4 @@ mod spared;
 mod transaction;
 
 pub use spared::SparedFabric;
-pub use transaction::{
-    RefusedEdit, TRANSACTION_EDITS, a_transaction_of_one_is_its_edit, edit_all,
-};
+pub use transaction::{RefusedEdit, TRANSACTION_EDITS, a_transaction_of_one_is_its_edit, edit_all};

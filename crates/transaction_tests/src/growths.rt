@@ -2,7 +2,8 @@
 
 use crate::alike::are_alike;
 use crate::edits::{CLERK, Change, edits_of, of_nine};
-use fabric_core::{Fabric, Refusal, RefusedEdit, TRANSACTION_EDITS};
+use edit_transactions::{RefusedEdit, TRANSACTION_EDITS, edit_all};
+use fabric_core::{Fabric, Refusal};
 use refusing_alloc::Refusing;
 use ring_edits::Edit;
 use std::test::Fail;
@@ -71,7 +72,7 @@ fn is_refused<'a, H: Refuses>(
     }
     let mut fabric = before.copy()?;
     heap.refuse(number);
-    let answer = fabric.edit_all(CLERK, edits);
+    let answer = edit_all(heap, &mut fabric, CLERK, edits);
     let was = was_refused(heap);
     match answer {
         Ok(_) => {
@@ -86,7 +87,7 @@ fn is_refused<'a, H: Refuses>(
             if !is_due || !are_alike(&fabric, before)? {
                 return Err(Fail::new("a refused transaction changed something"));
             }
-            if fabric.edit_all(CLERK, edits).is_err() || !are_alike(&fabric, behind)? {
+            if edit_all(heap, &mut fabric, CLERK, edits).is_err() || !are_alike(&fabric, behind)? {
                 return Err(Fail::new("another fabric with memory"));
             }
         }
@@ -104,7 +105,7 @@ fn least_growths<H: Refuses>(heap: &H) -> Result<u64, Fail> {
         if edits.is_empty() || edits.len() > TRANSACTION_EDITS {
             return Err(Fail::new("no transaction"));
         }
-        if behind.edit_all(CLERK, edits.as_slice()).is_err() {
+        if edit_all(heap, &mut behind, CLERK, edits.as_slice()).is_err() {
             return Err(Fail::new("a list is refused"));
         }
         let mut growths = 0;
@@ -126,7 +127,8 @@ fn all_or_nothing_at_each_growth(rt: HostRuntime) -> Result<(), Fail> {
     Ok(())
 }
 
-/// Makes a list with each growth refused in turn: memory runs out only before the place that is refused.
+/// Makes a list with each growth refused in turn: memory runs out only before the place that is refused, or at the
+/// first place, where what was before cannot be kept.
 fn try_told<'a, H: Refuses>(heap: &'a H, before: &Fabric<'a, H>, row: &Told) -> Result<(), Fail> {
     let edits = edits_of(heap, row.0)?;
     if edits.is_empty() || edits.len() > TRANSACTION_EDITS {
@@ -139,12 +141,13 @@ fn try_told<'a, H: Refuses>(heap: &'a H, before: &Fabric<'a, H>, row: &Told) -> 
     for number in 1..MOST {
         let mut fabric = before.copy()?;
         heap.refuse(number);
-        let answer = fabric.edit_all(CLERK, edits.as_slice());
+        let answer = edit_all(heap, &mut fabric, CLERK, edits.as_slice());
         let was = was_refused(heap);
         match answer {
             Ok(_) => return Err(Fail::new("nothing is refused")),
             Err(refused) => {
-                let ran_out = refused.refusal == Refusal::NoMemory && refused.place < want.place;
+                let is_early = refused.place < want.place || refused.place == 1;
+                let ran_out = refused.refusal == Refusal::NoMemory && is_early;
                 if refused != want && !ran_out {
                     return Err(Fail::new("another refusal"));
                 }

@@ -14,3 +14,5 @@ mod lists;
 mod long;
 #[cfg(test)]
 mod refused;
+#[cfg(test)]
+mod spared;

@@ -3,7 +3,8 @@
 
 use crate::alike::{are_alike, go_on_alike};
 use crate::edits::{CLERK, Change, edit_of, edits_of, of_four};
-use fabric_core::{Fabric, Refusal, RefusedEdit, TRANSACTION_EDITS};
+use edit_transactions::{RefusedEdit, TRANSACTION_EDITS, edit_all};
+use fabric_core::{Fabric, Refusal};
 use ring_edits::Edit;
 use std::alloc::Allocator;
 use std::test::Fail;
@@ -62,7 +63,7 @@ pub fn try_list<'a, H: Allocator>(
     let mut whole = before.copy()?;
     let mut single = before.copy()?;
     let want = one_by_one(&mut single, edits);
-    let answer = whole.edit_all(CLERK, edits);
+    let answer = edit_all(heap, &mut whole, CLERK, edits);
     if let Err(refused) = want {
         if refused.refusal == Refusal::NoMemory {
             return Err(Fail::new("memory is wanting"));

@@ -3,7 +3,8 @@
 use crate::alike::are_alike;
 use crate::edits::{CLERK, of_four};
 use crate::lists::one_by_one;
-use fabric_core::{Fabric, Refusal, RefusedEdit, TRANSACTION_EDITS};
+use edit_transactions::{RefusedEdit, TRANSACTION_EDITS, edit_all};
+use fabric_core::{Fabric, Refusal};
 use geo_exact::Corners;
 use ring_edits::Edit;
 use std::alloc::Allocator;
@@ -43,7 +44,7 @@ fn try_long<'a, H: Allocator>(heap: &'a H) -> Result<(), Fail> {
     if edits.len() != TRANSACTION_EDITS || wrong.len() != TRANSACTION_EDITS {
         return Err(Fail::new("another length"));
     }
-    match whole.edit_all(CLERK, wrong.as_slice()) {
+    match edit_all(heap, &mut whole, CLERK, wrong.as_slice()) {
         Ok(_) => return Err(Fail::new("nothing is refused")),
         Err(refused) => {
             let want = RefusedEdit {
@@ -58,7 +59,7 @@ fn try_long<'a, H: Allocator>(heap: &'a H) -> Result<(), Fail> {
     if one_by_one(&mut single, edits.as_slice()).is_err() {
         return Err(Fail::new("an edit is refused"));
     }
-    if whole.edit_all(CLERK, edits.as_slice()).is_err() {
+    if edit_all(heap, &mut whole, CLERK, edits.as_slice()).is_err() {
         return Err(Fail::new("the transaction is refused"));
     }
     if !are_alike(&whole, &single)? {

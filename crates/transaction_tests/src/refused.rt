@@ -2,7 +2,8 @@
 
 use crate::alike::are_alike;
 use crate::edits::{CLERK, Change, edits_of, of_nine};
-use fabric_core::{Fabric, Refusal, RefusedEdit, TRANSACTION_EDITS};
+use edit_transactions::{RefusedEdit, TRANSACTION_EDITS, edit_all};
+use fabric_core::{Fabric, Refusal};
 use ring_core::RingFault;
 use std::alloc::Allocator;
 use std::test::Fail;
@@ -117,7 +118,7 @@ fn try_row<'a, H: Allocator>(
         place: row.1,
         refusal: row.2,
     };
-    match fabric.edit_all(CLERK, edits.as_slice()) {
+    match edit_all(heap, fabric, CLERK, edits.as_slice()) {
         Ok(_) => return Err(Fail::new("nothing is refused")),
         Err(refused) => {
             if refused != want {

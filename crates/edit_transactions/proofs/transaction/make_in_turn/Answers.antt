@@ -81,8 +81,8 @@ loop-edit-preserved g c =
           is_entry others turn
           ∙ sym items;
       later = λ p r first. later_still c.args.fabric.now.now c.args.fabric.now.journal c.args.clerk c.args.edits.now c.loop-edit.edit-index c.loop-edit.entries.items c.loop-edit.fabric.now
-    c.loop-edit.fabric.journal c.loop-edit.invariant.now c.loop-edit.invariant.journal c.loop-edit.invariant.turn c.loop-edit.invariant.same
-    c.loop-edit.invariant.later c.edit-item.result c.edit-item.is
+          c.loop-edit.fabric.journal c.loop-edit.invariant.now c.loop-edit.invariant.journal c.loop-edit.invariant.turn c.loop-edit.invariant.same
+          c.loop-edit.invariant.later c.edit-item.result c.edit-item.is
           (λ r h. c.in-Ok.ensures.refuses r h) p r first;
     }
 
