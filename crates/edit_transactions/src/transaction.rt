@@ -29,7 +29,7 @@ pub struct RefusedEdit {
 
 /// Makes edits, one after the other, up to the first that is refused. Those before it stay made: whoever calls this has
 /// kept what was before.
-fn make_in_turn<'a, H: Allocator>(
+pub(crate) fn make_in_turn<'a, H: Allocator>(
     heap: &'a H,
     fabric: &mut Fabric<'a, H>,
     clerk: u32,
