@@ -6,9 +6,10 @@ in which the parcel was made: a recut leaves it as it is.
 from __future__ import annotations
 
 from dataclasses import dataclass, field
-from typing import Callable, Dict, Optional, Sequence, Tuple
+from typing import TYPE_CHECKING, Callable, Dict, Optional, Sequence, Tuple
 
-from ..serve.entries import Entry
+if TYPE_CHECKING:  # it brings numpy along, which a command that needs none would wait for
+    from ..serve.entries import Entry
 
 A_DISTRICT = 1_000_000_000
 """Ids of a district: a session's journal has at most a million entries, of two new parcels each."""

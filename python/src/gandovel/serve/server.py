@@ -22,6 +22,7 @@ from uvicorn.protocols.http.httptools_impl import HttpToolsProtocol
 
 from ..errors import Refused
 from ..live.checkpoint import is_checkpoint
+from ..live.witness import Witness
 from ..metropolis.manifest import is_metropolis
 from .access import Clients, Tokens
 from .app import application
@@ -265,6 +266,11 @@ async def _started(register: Register, island: int) -> Register:
     return faulty
 
 
+def _show_witness(metrics: Metrics, witness: Witness) -> None:
+    """Has the metrics say how far the journal is anchored."""
+    metrics.show("witness_entries", "The last entry of the journal that its witness has", lambda: witness.number)
+
+
 async def _run(
     options: argparse.Namespace,
     register: Register,
@@ -275,9 +281,8 @@ async def _run(
     register = await _started(register, options.island)
     gc.freeze()  # what is there now stays: no search for what is lost goes through it
     metrics = Metrics(register)
-    witness = register.witness
-    if witness is not None:
-        metrics.show("witness_entries", "The last entry of the journal that its witness has", lambda: witness.number)
+    if register.witness is not None:
+        _show_witness(metrics, register.witness)
     base_map = getattr(options, "base_map", None)
     site, proxies = Site(register, metrics, options.url, base_map), os.environ.get("FORWARDED_ALLOW_IPS", "127.0.0.1")
     inner = application(site, options.oidc)
